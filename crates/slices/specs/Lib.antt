@@ -1,0 +1,3 @@
+-- The modules of slices that contracts and proofs cite.
+pub mod Bytes
+pub mod Laws
