@@ -1,0 +1,40 @@
+-- `wire::put16` meets its contract. Two stores side by side are one paste. Assumes nothing.
+use Rattle.wire.specs.Laws.{ends}
+use native.Mathlib.Omega.{arith}
+use lib.ListN.{length-set}
+use borrow.Author.Needs.{needs}
+use Rattle.wire.proofs.put16.Statement.{statement}
+use Rattle.wire.proofs.put16.Tie as tie
+
+low8-requires : tie.Need-low8-requires
+low8-requires c κs = search (ends, needs)
+
+low8-requires-2 : tie.Need-low8-requires-2
+low8-requires-2 c κs = search (ends, needs)
+
+slice-write-d : tie.Need-slice-write-d
+slice-write-d c = search (ends, needs)
+
+add-d : tie.Need-add-d
+add-d c = search (ends, needs)
+
+slice-write-d-2 : tie.Need-slice-write-d-2
+slice-write-d-2 c = simp length-set (omega arith)
+
+same-length : tie.Need-same-length
+same-length c = search (ends, needs)
+
+returns : tie.Need-returns
+returns c = search (ends, needs)
+
+pub put16-spec : {M : Type 1} → statement M
+put16-spec =
+    tie.close
+    (tie.spec
+    low8-requires
+    low8-requires-2
+    slice-write-d
+    add-d
+    slice-write-d-2
+    same-length
+    returns)
