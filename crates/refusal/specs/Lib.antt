@@ -1,0 +1,2 @@
+-- The modules of refusal that contracts and proofs cite.
+pub mod Refusal
