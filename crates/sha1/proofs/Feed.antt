@@ -1,0 +1,136 @@
+-- Laws of `joined`, `fill_up`, `feed` and `finish`: what the code leaves in a digest is what `feedState` says. Assumes nothing.
+use mathlib.Core.Path.{_≡_, refl, sym, ap, _∙_}
+use mathlib.Core.List.{List, [], _∷_, _++_, append-assoc, append-nil}
+use Prim.Native.Nat.{ℕ, zero, suc, _+_, _-_, _*_, _/_, _%_, _^_, _≤_, _<_}
+use native.Mathlib.Nat.{zero-add, sub-zero}
+use native.Mathlib.Numerals.{add-one}
+use native.Mathlib.Omega.{arith}
+use lib.ListN.{length, take, drop, set, replicate, length-append, length-drop, take-append-drop}
+use lib.Seq.{paste, take-paste, take-all, length-take-le, drop-drop, take-at, drop-length, take-length}
+use Rattle.laws.specs.Lists.{length-part}
+use Rattle.laws.specs.Paste.{paste-then, paste-take}
+use Rattle.wire.specs.BigEndian.{bytesOf, length-bytes}
+use Rattle.sha1.specs.Sha1.{compress, hashBlocks, hashAll, zerosOf, padding}
+use Rattle.sha1.specs.Pieces.{State, lastPart, feedState, filled, digestAt, stateOf, fed}
+use Rattle.sha1.specs.declared.Digest.{Digest}
+use Rattle.sha1.specs.Theorems.{hash-short, last-short, hash-long, last-long, hash-append, last-append}
+
+-- ---- zeros
+
+take-zeros : (n m : ℕ) → n ≤ m → take {A = ℕ} n (replicate m 0) ≡ replicate n 0
+take-zeros zero m h = refl
+take-zeros (suc n) zero h = absurd (omega arith)
+take-zeros (suc n) (suc m) h = ap (λ (l : List ℕ). 0 ∷ l) (take-zeros n m (omega arith))
+
+drop-zeros : (n m : ℕ) → n ≤ m → drop {A = ℕ} n (replicate m 0) ≡ replicate (m - n) 0
+drop-zeros zero m h = ap (λ (k : ℕ). replicate k 0) (sym (sub-zero m))
+drop-zeros (suc n) zero h = absurd (omega arith)
+drop-zeros (suc n) (suc m) h =
+    let q : suc m - suc n ≡ m - n = omega arith in
+    drop-zeros n m (omega arith) ∙ ap (λ (k : ℕ). replicate k 0) (sym q)
+
+-- ---- `joined`: two copies into zeros
+
+filled-paste : (s : List ℕ) (n : ℕ) → length s ≡ n → n ≤ 64 → paste (replicate 64 0) 0 s n ≡ filled s
+unfolding filled
+filled-paste s n e h = rw (← e, zero-add (length s), take-length s, drop-zeros (length s) 64 (omega arith))
+
+pub joined-made : (a b d₁ d₂ : List ℕ) (n from m : ℕ) → n ≤ length a → from + m ≤ length b → n + m ≤ 64
+    → d₁ ≡ paste (replicate 64 0) 0 (drop 0 a) n → d₂ ≡ paste d₁ n (drop from b) m → d₂ ≡ filled (take n a ++ take m (drop from b))
+joined-made a b d₁ d₂ n from m ha hb h e₁ e₂ =
+    let la : length (take n a) ≡ n = length-take-le n a ha in
+    let lb : length (take m (drop from b)) ≡ m = length-part m from b hb in
+    let l : length (take n a ++ take m (drop from b)) ≡ n + m = rw (length-append, la, lb) in
+    paste-then (replicate 64 0) d₁ d₂ 0 n (take n a) (take m (drop from b)) n m (n + m) (e₁ ∙ paste-take (replicate 64 0) 0 a n) (e₂ ∙ paste-take d₁ n (drop from b) m) (sym (zero-add n)) refl la (omega arith) (omega arith)
+    ∙ filled-paste (take n a ++ take m (drop from b)) (n + m) l h
+
+-- ---- `fill_up`
+
+pub fill-none : (h block piece : List ℕ) (used room : ℕ) → used ≡ 0 → room ≡ (64 - used) % 64 → h ≡ hashAll h (take used block ++ take room piece)
+unfolding hashBlocks
+fill-none h block piece used room e p =
+    let q : room ≡ 0 = omega arith in
+    rw (e, q)
+
+sixty : (used room : ℕ) → (used ≡ 0 → ⊥) → used < 64 → room ≡ (64 - used) % 64 → used + room ≡ 64
+sixty used room ne lt p = omega arith
+
+pub fill-one : (h block piece d r : List ℕ) (used room : ℕ) → (used ≡ 0 → ⊥) → used < 64 → room ≡ (64 - used) % 64 → length block ≡ 64 → room ≤ length piece
+    → d ≡ filled (take used block ++ take room (drop 0 piece)) → r ≡ compress h (take 64 (drop 0 d)) → r ≡ hashAll h (take used block ++ take room piece)
+unfolding filled hashBlocks
+fill-one h block piece d r used room ne lt p lb lp e g =
+    let s = take used block ++ take room piece in
+    let l : length s ≡ 64 = length-append (take used block) (take room piece) ∙ (rw (length-take-le used block (omega arith), length-take-le room piece lp) (sixty used room ne lt p)) in
+    let n : length s / 64 ≡ 1 = rw l in
+    g ∙ rw (e, n, take-at s (replicate (64 - length s) 0) 64 l, take-all 64 s (omega arith))
+
+-- ---- `feed`
+
+blocks-only : (used : ℕ) → used < 64 → (used + (64 - used) % 64) / 64 * 64 ≡ used + (64 - used) % 64
+blocks-only used h = omega arith
+
+module _ (h block piece : List ℕ) (len total room : ℕ) (long : length block ≡ 64) (sum : total ≡ (len + length piece) % 2 ^ 64) (space : room ≡ (64 - len % 64) % 64) where
+  in-use : length (take (len % 64) block) ≡ len % 64
+  in-use = length-take-le (len % 64) block (omega arith)
+
+  -- the piece fits beside the bytes in use
+  pub feed-short : (d : List ℕ) → length piece < room → d ≡ filled (take (len % 64) block ++ take (length piece) (drop 0 piece))
+      → _≡_ {A = Digest} (record { h = h; block = d; len = total }) (fed (record { h = h; block = block; len = len }) piece)
+  unfolding fed feedState
+  feed-short d fits e =
+      let s = take (len % 64) block ++ piece in
+      let small : length s < 64 = rw (length-append (take (len % 64) block) piece, in-use) (omega arith) in
+      let p : h ≡ hashAll h s = sym (hash-short h s small) in
+      let q : d ≡ filled (lastPart s) = e ∙ ap (λ (l : List ℕ). filled (take (len % 64) block ++ l)) (take-length piece) ∙ ap filled (sym (last-short s small)) in
+      λ k. record { h = p k; block = q k; len = sum k }
+
+  -- the piece fills the block that is begun, if one is
+  module _ (count at : ℕ) (fills : room ≤ length piece) (whole : count ≡ (length piece - room) / 64) (next : at ≡ room + count * 64) where
+    begun : List ℕ
+    begun = take (len % 64) block ++ take room piece
+
+    begun-whole : lastPart begun ≡ []
+    unfolding begun
+    begun-whole =
+        let l : length begun ≡ len % 64 + room = length-append (take (len % 64) block) (take room piece) ∙ rw (in-use, length-take-le room piece fills) in
+        let n : length begun / 64 * 64 ≡ length begun = rw (l, space) (blocks-only (len % 64) (omega arith)) in
+        ap (λ (k : ℕ). drop k begun) n ∙ drop-length begun
+
+    message : begun ++ drop room piece ≡ take (len % 64) block ++ piece
+    unfolding begun
+    message = append-assoc (take (len % 64) block) (take room piece) (drop room piece) ∙ ap (λ (l : List ℕ). take (len % 64) block ++ l) (take-append-drop room piece)
+
+    left : length (drop room piece) / 64 ≡ count
+    left = rw (length-drop room piece) (sym whole)
+
+    hashed : (first last : List ℕ) → first ≡ hashAll h begun → last ≡ hashBlocks count first (drop room piece) → last ≡ hashAll h (take (len % 64) block ++ piece)
+    hashed first last f g =
+        g ∙ (λ k. hashBlocks (sym left k) (f k) (drop room piece))
+        ∙ ap (λ (l : List ℕ). hashAll (hashAll h begun) (l ++ drop room piece)) (sym begun-whole)
+        ∙ hash-append h begun (drop room piece)
+        ∙ ap (hashAll h) message
+
+    kept : lastPart (take (len % 64) block ++ piece) ≡ drop at piece
+    kept =
+        sym (ap lastPart message) ∙ sym (last-append begun (drop room piece)) ∙ ap (λ (l : List ℕ). lastPart (l ++ drop room piece)) begun-whole
+        ∙ rw (left, next) (drop-drop (count * 64) room piece)
+
+    pub feed-long : (d first last : List ℕ) → first ≡ hashAll h (take (len % 64) block ++ take room piece) → last ≡ hashBlocks count first (drop room piece) → d ≡ filled (take 0 block ++ take (length piece - at) (drop at piece))
+        → _≡_ {A = Digest} (record { h = last; block = d; len = total }) (fed (record { h = h; block = block; len = len }) piece)
+    unfolding fed feedState begun
+    feed-long d first last f g e =
+        let p : last ≡ hashAll h (take (len % 64) block ++ piece) = hashed first last f g in
+        let q : d ≡ filled (lastPart (take (len % 64) block ++ piece)) = e ∙ ap filled (take-all (length piece - at) (drop at piece) (omega (arith, length-drop at piece)) ∙ sym kept) in
+        λ k. record { h = p k; block = q k; len = sum k }
+
+-- ---- `finish`
+
+pub pad-made : (len zeros bits : ℕ) (d : List ℕ) → zeros ≡ (119 - len % 64) % 64 → bits ≡ len % 0x2000_0000_0000_0000 * 8 → d ≡ paste {A = ℕ} (set (replicate 72 0) 0 128) (zeros + 1) (bytesOf 8 bits) 8
+    → take (zeros + 9) d ≡ padding len
+unfolding padding zerosOf
+pad-made len zeros bits d z e f =
+    let n : zeros + 9 ≡ zeros + 1 + 8 = omega arith in
+    let b : bits ≡ len * 8 % 2 ^ 64 = omega arith in
+    let x : take {A = ℕ} (zeros + 1) (set (replicate 72 0) 0 128) ≡ 128 ∷ replicate zeros 0 = rw add-one (ap (λ (l : List ℕ). 128 ∷ l) (take-zeros zeros 71 (omega arith))) in
+    let l : length (bytesOf 8 bits) ≡ 8 = length-bytes 8 bits in
+    rw (n, f, take-paste {A = ℕ} (set (replicate 72 0) 0 128) (zeros + 1) (bytesOf 8 bits) 8 (omega arith) (omega arith), x, take-all 8 (bytesOf 8 bits) (omega arith), b, z)

@@ -1,0 +1,56 @@
+-- `sha1::rounds_ch` meets its contract: the rounds are those of `run-ch`, and each turn of the loop is one of them. Assumes nothing.
+use borrow.Author.Needs.{needs}
+use native.Mathlib.Omega.{arith}
+use Prim.Native.Nat.{_-_}
+use Rattle.sha1.proofs.Laws.{Left, left-start, left-more, left-end, run-ch}
+use Rattle.sha1.proofs.rounds_ch.Statement.{statement}
+use Rattle.sha1.proofs.rounds_ch.Tie as tie
+
+abbrev Inv-loop : tie.InvT-loop
+Inv-loop w v₀ t₀ v t = Left 0 w v₀ v t
+
+abbrev μ-loop : tie.MeasureT-loop
+μ-loop w v₀ t₀ v t = 20 - t
+
+loop-holds : tie.Need-loop-holds Inv-loop μ-loop
+loop-holds c = left-start 0 _ _ (search needs)
+
+ch-requires : tie.Need-ch-requires Inv-loop μ-loop
+ch-requires c κs = search needs
+
+mul-turn : tie.Need-mul-turn Inv-loop μ-loop
+mul-turn c = search needs
+
+element-copy-out-turn : tie.Need-element-copy-out-turn Inv-loop μ-loop
+element-copy-out-turn c = search needs
+
+turn-requires : tie.Need-turn-requires Inv-loop μ-loop
+turn-requires c κs = search needs
+
+add-t : tie.Need-add-t Inv-loop μ-loop
+add-t c = search needs
+
+loop-less : tie.Need-loop-less Inv-loop μ-loop
+loop-less c = search needs
+
+loop-again : tie.Need-loop-again Inv-loop μ-loop
+loop-again c = search (left-more, run-ch, needs)
+
+returns : tie.Need-returns Inv-loop μ-loop
+returns c = search (left-end, needs)
+
+pub rounds-ch-spec : {M : Type 1} → statement M
+rounds-ch-spec =
+    tie.close
+    (tie.spec
+    Inv-loop
+    μ-loop
+    loop-holds
+    ch-requires
+    mul-turn
+    element-copy-out-turn
+    turn-requires
+    add-t
+    loop-less
+    loop-again
+    returns)
