@@ -1,11 +1,12 @@
 -- Bytes put into a list: what stood at the place is replaced, and all else is as it was. A writer's turns are `put`s side by side. Assumes nothing.
 use mathlib.Core.Path.{_≡_, sym, ap, _∙_}
-use mathlib.Core.List.{List, [], _++_, append-assoc, append-nil}
-use Prim.Native.Nat.{ℕ, _+_, _≤_}
+use mathlib.Core.List.{List, [], _∷_, _++_, append-assoc, append-nil}
+use Prim.Native.Nat.{ℕ, _+_, _≤_, _<_}
 use native.Mathlib.Nat.{add-zero}
+use native.Mathlib.Numerals.{add-one}
 use native.Mathlib.Omega.{arith}
-use lib.ListN.{length, take, drop, length-append, length-drop, take-append-drop}
-use lib.Seq.{paste, length-take-le, take-at, drop-at, drop-drop, take-length}
+use lib.ListN.{length, set, take, drop, length-append, length-drop, take-append-drop}
+use lib.Seq.{paste, append-snoc, set-split, length-take-le, take-at, drop-at, drop-drop, take-length}
 
 -- d with the bytes xs in the place of those from `at` on
 unfoldable pub put : List ℕ → ℕ → List ℕ → List ℕ
@@ -48,3 +49,8 @@ put-put d xs ys at h =
 pub paste-put : (d xs : List ℕ) (at n : ℕ) → n ≡ length xs → paste d at xs n ≡ put d at xs
 unfolding put
 paste-put d xs at n e = rw (e, take-length xs)
+
+-- one store is one byte put
+pub set-put : (d : List ℕ) (at a : ℕ) → at < length d → set d at a ≡ put d at (a ∷ [])
+unfolding put
+set-put d at a h = rw (append-snoc (take at d) a (drop (at + 1) d), add-one at) (set-split d at a h)

@@ -3,8 +3,10 @@ ghost use mathlib.Core.Path.{_≡_};
 ghost use Prim.Native.Nat.{_+_, _-_, _*_, _/_, _%_, _≤_, _<_};
 ghost use lib.ListN.{length, drop};
 ghost use lib.Seq.{paste};
+ghost use Rattle.laws.specs.Put.{put};
 ghost use Rattle.wire.specs.BigEndian.{beAt, bytesOf};
 ghost use Rattle.wire.specs.Groups.{numberAt};
+ghost use Rattle.wire.specs.Written.{digitsOf};
 ghost use Rattle.wire.specs.Digits.{grown, digitsIn, unsignedAt, plain, negated, signedAt};
 
 // A place in the file, and a place in the path store: neither is ever taken for the other.
@@ -254,4 +256,39 @@ pub fn signed_digits(s: &[u8], at: usize, end: usize, base: u64, half: u64) -> S
         return negate(digits(s, after, end, base, half));
     }
     plainly(digits(s, at, end, base, half - 1))
+}
+
+// The digit of a number below the base.
+fn digit_of(x: u64) -> u8
+    requires { ⌜ x < 10 ⌝ }
+    ensures { λ r. ⌜ r ≡ 48 + x ⌝ }
+{
+    48 + (x as u8)
+}
+
+// How many digits x has.
+pub fn decimal_size(x: u64) -> usize
+    ensures { λ r. ⌜ r ≡ length (digitsOf 10 x) ⌝ }
+{
+    let mut left = x;
+    let mut n: usize = 1;
+    while 10 <= left {
+        left = left / 10;
+        n += 1;
+    }
+    n
+}
+
+// Writes x at `at` in the fewest decimal digits, and answers the place behind them.
+pub fn put_decimal(d: &mut [u8], at: usize, x: u64) -> usize
+    requires { ⌜ at + length (digitsOf 10 x) ≤ length (now d) ⌝ }
+    ensures { λ r. ⌜ (r ≡ at + length (digitsOf 10 x)) × (now (d .exit) ≡ put (now (d .entry)) at (digitsOf 10 x)) ⌝ }
+{
+    if x < 10 {
+        d[at] = digit_of(x);
+        return at + 1;
+    }
+    let next = put_decimal(d, at, x / 10);
+    d[next] = digit_of(x % 10);
+    next + 1
 }

@@ -1,0 +1,2 @@
+-- The modules of file that contracts and proofs cite.
+pub mod Trailer

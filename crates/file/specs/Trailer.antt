@@ -1,0 +1,87 @@
+-- The trailer, the file's last bytes (01, refusal 4: "trailer neither zeros nor SHA-1 of the rest"), over the length of an id. Assumes nothing.
+use Prim.Native.Nat.{ℕ, zero, suc, _-_, _*_, _/_, _≤_}
+use mathlib.Core.Bool.{Bool, true, false}
+use mathlib.Core.List.{List, [], _∷_, _++_}
+use mathlib.Core.Logic.{_↔_}
+use mathlib.Core.Path.{_≡_, refl, sym, ap, _∙_}
+use native.Mathlib.Omega.{arith}
+use lib.ListN.{length, take, drop, replicate, length-append, length-drop}
+use lib.Seq.{take-all}
+use Rattle.laws.specs.Pick.{pick}
+use Rattle.slices.specs.Bytes.{sameBytes}
+use Rattle.slices.specs.Laws.{same-refl, same-equal}
+use Rattle.wire.specs.BigEndian.{bytesOf, length-bytes}
+use Rattle.sha1.specs.Sha1.{initial, padding, added, compress, hashBlocks, hashAll, digestOf, sha1}
+
+-- the file without its trailer, and the trailer
+abbrev pub content : ℕ → List ℕ → List ℕ
+content id s = take (length s - id) s
+
+abbrev pub trailer : ℕ → List ℕ → List ℕ
+trailer id s = drop (length s - id) s
+
+unfoldable pub goodTrailer : ℕ → List ℕ → Bool
+goodTrailer id s = pick (sameBytes (trailer id s) (replicate id 0)) true (sameBytes (trailer id s) (sha1 (content id s)))
+
+-- ---- what good means
+
+-- a digest has twenty bytes
+digest-length : (h : List ℕ) → length (digestOf h) ≡ length h * 4
+unfolding digestOf
+digest-length [] = refl
+digest-length (x ∷ h) = length-append (bytesOf 4 x) (digestOf h) ∙ omega (arith, length-bytes 4 x, digest-length h)
+
+blocks-length : (n : ℕ) (h s : List ℕ) → length h ≡ 5 → length (hashBlocks n h s) ≡ 5
+unfolding hashBlocks compress added
+blocks-length zero h s e = e
+blocks-length (suc n) h s e = blocks-length n (compress h (take 64 s)) (drop 64 s) refl
+
+pub sha1-length : (s : List ℕ) → length (sha1 s) ≡ 20
+unfolding sha1 initial
+sha1-length s =
+    let t : List ℕ = s ++ padding (length s) in
+    digest-length (hashAll initial t) ∙ omega (arith, blocks-length (length t / 64) initial t refl)
+
+-- it is zeros, or the SHA-1 of the rest
+pub data Good (s : List ℕ) : Type 0 where
+  zeros : trailer 20 s ≡ replicate 20 0 → Good s
+  hashed : trailer 20 s ≡ sha1 (content 20 s) → Good s
+
+pub good-exactly : (s : List ℕ) → (goodTrailer 20 s ≡ true) ↔ Good s
+unfolding goodTrailer
+good-exactly s = (to (sameBytes (trailer 20 s) (replicate 20 0)) refl, from)
+  where
+    to : (t : Bool) → sameBytes (trailer 20 s) (replicate 20 0) ≡ t → pick t true (sameBytes (trailer 20 s) (sha1 (content 20 s))) ≡ true → Good s
+    to true e q = zeros (same-equal (trailer 20 s) (replicate 20 0) e)
+    to false e q = hashed (same-equal (trailer 20 s) (sha1 (content 20 s)) q)
+
+    either : (t : Bool) → pick t true true ≡ true
+    either true = refl
+    either false = refl
+
+    from : Good s → goodTrailer 20 s ≡ true
+    from (zeros e) = rw (e, same-refl (replicate 20 0))
+    from (hashed e) =
+        let q : sameBytes (trailer 20 s) (sha1 (content 20 s)) ≡ true = ap (λ (l : List ℕ). sameBytes l (sha1 (content 20 s))) e ∙ same-refl (sha1 (content 20 s)) in
+        rw q (either (sameBytes (trailer 20 s) (replicate 20 0)))
+
+-- ---- what the code's two comparisons come to
+module _ (s : List ℕ) (n : ℕ) (h : 20 ≤ length s) (e : n ≡ length s - 20) (z : List ℕ) (ez : z ≡ replicate 20 0) (t : Bool) (et : t ≡ sameBytes (take 20 (drop n s)) (take 20 (drop 0 z))) where
+  last : take 20 (drop n s) ≡ trailer 20 s
+  last = take-all 20 (drop n s) (omega (arith, length-drop n s)) ∙ ap (λ (k : ℕ). drop k s) e
+
+  first-test : t ≡ sameBytes (trailer 20 s) (replicate 20 0)
+  first-test = et ∙ (λ i. sameBytes (last i) (take 20 (drop 0 (ez i))))
+
+  pub trailer-zeros : t ≡ true → true ≡ goodTrailer 20 s
+  unfolding goodTrailer
+  trailer-zeros q = sym (rw (← first-test, q))
+
+  pub trailer-hash : t ≡ false → (d : List ℕ) → d ≡ sha1 (take n s) → (u : Bool) → u ≡ sameBytes (take 20 (drop n s)) (take 20 (drop 0 d)) → u ≡ goodTrailer 20 s
+  unfolding goodTrailer
+  trailer-hash q d ed u eu =
+      let g : d ≡ sha1 (content 20 s) = ed ∙ ap (λ (k : ℕ). sha1 (take k s)) e in
+      let l : take 20 (drop 0 d) ≡ sha1 (content 20 s) = take-all 20 d (omega (arith, ap length g, sha1-length (content 20 s))) ∙ g in
+      eu ∙ (λ i. sameBytes (last i) (l i)) ∙ sym (rw (← first-test, q))
+
+pub ruleset laws = (trailer-zeros, trailer-hash)
