@@ -2,7 +2,7 @@
 use mathlib.Core.Path.{_≡_, refl, sym, ap, _∙_}
 use mathlib.Core.List.{List, [], _∷_, _++_, append-assoc, append-nil}
 use Prim.Native.Nat.{ℕ, zero, suc, _+_, _-_, _*_, _/_, _%_, _^_, _≤_, _<_}
-use native.Mathlib.Nat.{zero-add, sub-zero}
+use native.Mathlib.Nat.{zero-add}
 use native.Mathlib.Numerals.{add-one}
 use native.Mathlib.Omega.{arith}
 use lib.ListN.{length, take, drop, set, replicate, length-append, length-drop, take-append-drop}
@@ -10,30 +10,17 @@ use lib.Seq.{paste, take-paste, take-all, length-take-le, drop-drop, take-at, dr
 use Rattle.laws.specs.Lists.{length-part}
 use Rattle.laws.specs.Paste.{paste-then, paste-take}
 use Rattle.wire.specs.BigEndian.{bytesOf, length-bytes}
+use Rattle.sha1.specs.Repeated.{take-replicate, drop-replicate}
 use Rattle.sha1.specs.Sha1.{compress, hashBlocks, hashAll, zerosOf, padding}
 use Rattle.sha1.specs.Pieces.{State, lastPart, feedState, filled, digestAt, stateOf, fed}
 use Rattle.sha1.specs.declared.Digest.{Digest}
 use Rattle.sha1.specs.Theorems.{hash-short, last-short, hash-long, last-long, hash-append, last-append}
 
--- ---- zeros
-
-take-zeros : (n m : ℕ) → n ≤ m → take {A = ℕ} n (replicate m 0) ≡ replicate n 0
-take-zeros zero m h = refl
-take-zeros (suc n) zero h = absurd (omega arith)
-take-zeros (suc n) (suc m) h = ap (λ (l : List ℕ). 0 ∷ l) (take-zeros n m (omega arith))
-
-drop-zeros : (n m : ℕ) → n ≤ m → drop {A = ℕ} n (replicate m 0) ≡ replicate (m - n) 0
-drop-zeros zero m h = ap (λ (k : ℕ). replicate k 0) (sym (sub-zero m))
-drop-zeros (suc n) zero h = absurd (omega arith)
-drop-zeros (suc n) (suc m) h =
-    let q : suc m - suc n ≡ m - n = omega arith in
-    drop-zeros n m (omega arith) ∙ ap (λ (k : ℕ). replicate k 0) (sym q)
-
 -- ---- `joined`: two copies into zeros
 
 filled-paste : (s : List ℕ) (n : ℕ) → length s ≡ n → n ≤ 64 → paste (replicate 64 0) 0 s n ≡ filled s
 unfolding filled
-filled-paste s n e h = rw (← e, zero-add (length s), take-length s, drop-zeros (length s) 64 (omega arith))
+filled-paste s n e h = rw (← e, zero-add (length s), take-length s, drop-replicate (length s) 64 0 (omega arith))
 
 pub joined-made : (a b d₁ d₂ : List ℕ) (n from m : ℕ) → n ≤ length a → from + m ≤ length b → n + m ≤ 64
     → d₁ ≡ paste (replicate 64 0) 0 (drop 0 a) n → d₂ ≡ paste d₁ n (drop from b) m → d₂ ≡ filled (take n a ++ take m (drop from b))
@@ -131,6 +118,6 @@ unfolding padding zerosOf
 pad-made len zeros bits d z e f =
     let n : zeros + 9 ≡ zeros + 1 + 8 = omega arith in
     let b : bits ≡ len * 8 % 2 ^ 64 = omega arith in
-    let x : take {A = ℕ} (zeros + 1) (set (replicate 72 0) 0 128) ≡ 128 ∷ replicate zeros 0 = rw add-one (ap (λ (l : List ℕ). 128 ∷ l) (take-zeros zeros 71 (omega arith))) in
+    let x : take {A = ℕ} (zeros + 1) (set (replicate 72 0) 0 128) ≡ 128 ∷ replicate zeros 0 = rw add-one (ap (λ (l : List ℕ). 128 ∷ l) (take-replicate zeros 71 0 (omega arith))) in
     let l : length (bytesOf 8 bits) ≡ 8 = length-bytes 8 bits in
     rw (n, f, take-paste {A = ℕ} (set (replicate 72 0) 0 128) (zeros + 1) (bytesOf 8 bits) 8 (omega arith) (omega arith), x, take-all 8 (bytesOf 8 bits) (omega arith), b, z)

@@ -1,5 +1,7 @@
 -- The crate's definitions and what holds of them. `Sha1` is FIPS 180-4 alone, and names nothing of the code; `Pieces` is a digest whose message comes
--- in pieces; `Schedule` and `Theorems` are laws of the two; `Examples` has the standard's vectors. Assumes nothing.
+-- in pieces; `Schedule` and `Theorems` are laws of the two; `Examples` has the standard's vectors;
+-- `Repeated` has two laws of lists. Assumes nothing.
+pub mod Repeated
 pub mod Sha1
 pub mod Pieces
 pub mod Schedule

@@ -1,0 +1,2 @@
+-- What the proof of `hex_line` cites. Assumes nothing.
+mod Laws

@@ -1,0 +1,2 @@
+-- What the contracts of show cite. Assumes nothing.
+pub mod Hex
