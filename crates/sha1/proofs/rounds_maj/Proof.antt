@@ -34,10 +34,10 @@ loop-less : tie.Need-loop-less Inv-loop μ-loop
 loop-less c = search needs
 
 loop-again : tie.Need-loop-again Inv-loop μ-loop
-loop-again c = search (left-more, run-maj, needs)
+loop-again c = left-more 40 _ _ _ _ (c .before .before .before .before .loop .inv) run-maj (c .before .before .before .loop-test .taken) (c .before .before .maj .ensures) (c .turn .ensures)
 
 returns : tie.Need-returns Inv-loop μ-loop
-returns c = search (left-end, needs)
+returns c = left-end 40 _ _ _ _ (c .before .loop .inv) (c .loop-test .left)
 
 pub rounds-maj-spec : {M : Type 1} → statement M
 rounds-maj-spec =

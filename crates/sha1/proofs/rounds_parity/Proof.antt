@@ -34,10 +34,10 @@ loop-less : tie.Need-loop-less Inv-loop μ-loop
 loop-less c = search needs
 
 loop-again : tie.Need-loop-again Inv-loop μ-loop
-loop-again c = search (left-more, run-parity, needs)
+loop-again c = left-more 20 _ _ _ _ (c .before .before .before .before .loop .inv) run-parity (c .before .before .before .loop-test .taken) (c .before .before .parity .ensures) (c .turn .ensures)
 
 returns : tie.Need-returns Inv-loop μ-loop
-returns c = search (left-end, needs)
+returns c = left-end 20 _ _ _ _ (c .before .loop .inv) (c .loop-test .left)
 
 pub rounds-parity-spec : {M : Type 1} → statement M
 rounds-parity-spec =

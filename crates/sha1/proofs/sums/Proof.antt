@@ -1,4 +1,5 @@
 -- `sha1::sums` meets its contract: each word is the sum that the definition asks. Assumes nothing.
+use mathlib.Core.List.{[], _∷_}
 use borrow.Author.Needs.{needs}
 use Rattle.sha1.specs.Sha1.{added}
 use Rattle.sha1.proofs.sums.Statement.{statement}
@@ -51,7 +52,13 @@ wrapping-add-u32-requires-5 c κs = search needs
 
 returns : tie.Need-returns
 unfolding added
-returns c = cc
+returns c =
+    let a = c .before .before .before .before .wrapping-add-u32 .ensures in
+    let b = c .before .before .before .wrapping-add-u322 .ensures in
+    let third = c .before .before .wrapping-add-u323 .ensures in
+    let d = c .before .wrapping-add-u324 .ensures in
+    let e = c .wrapping-add-u325 .ensures in
+    λ k. a k ∷ b k ∷ third k ∷ d k ∷ e k ∷ []
 
 pub sums-spec : {M : Type 1} → statement M
 sums-spec =

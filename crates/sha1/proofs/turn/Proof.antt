@@ -1,4 +1,6 @@
 -- `sha1::turn` meets its contract: the five variables are those of the definition. Assumes nothing.
+use mathlib.Core.List.{[], _∷_}
+use lib.ListN.{getD}
 use borrow.Author.Needs.{needs}
 use Rattle.sha1.specs.Sha1.{turn}
 use Rattle.sha1.proofs.turn.Statement.{statement}
@@ -30,7 +32,11 @@ array-read-t25 c = search needs
 
 returns : tie.Need-returns
 unfolding turn
-returns c = cc
+returns c =
+    let v = c .before .before .args .t1 in
+    let a = c .before .sum .ensures in
+    let b = c .rotl .ensures in
+    λ k. a k ∷ getD v 0 0 ∷ b k ∷ getD v 2 0 ∷ getD v 3 0 ∷ []
 
 pub turn-spec : {M : Type 1} → statement M
 turn-spec =
