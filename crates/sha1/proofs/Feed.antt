@@ -1,7 +1,7 @@
 -- Laws of `joined`, `fill_up`, `feed` and `finish`: what the code leaves in a digest is what `feedState` says. Assumes nothing.
 use mathlib.Core.Path.{_≡_, refl, sym, ap, _∙_}
-use mathlib.Core.List.{List, [], _∷_, _++_, append-assoc, append-nil}
-use Prim.Native.Nat.{ℕ, zero, suc, _+_, _-_, _*_, _/_, _%_, _^_, _≤_, _<_}
+use mathlib.Core.List.{List, [], _∷_, _++_, append-assoc}
+use Prim.Native.Nat.{ℕ, _+_, _-_, _*_, _/_, _%_, _^_, _≤_, _<_}
 use native.Mathlib.Nat.{zero-add}
 use native.Mathlib.Numerals.{add-one}
 use native.Mathlib.Omega.{arith}
@@ -12,9 +12,9 @@ use Rattle.laws.specs.Paste.{paste-then, paste-take}
 use Rattle.wire.specs.BigEndian.{bytesOf, length-bytes}
 use Rattle.sha1.specs.Repeated.{take-replicate, drop-replicate}
 use Rattle.sha1.specs.Sha1.{compress, hashBlocks, hashAll, zerosOf, padding}
-use Rattle.sha1.specs.Pieces.{State, lastPart, feedState, filled, digestAt, stateOf, fed}
+use Rattle.sha1.specs.Pieces.{lastPart, feedState, filled, fed}
 use Rattle.sha1.specs.declared.Digest.{Digest}
-use Rattle.sha1.specs.Theorems.{hash-short, last-short, hash-long, last-long, hash-append, last-append}
+use Rattle.sha1.specs.Theorems.{hash-short, last-short, hash-append, last-append}
 
 -- ---- `joined`: two copies into zeros
 

@@ -5,13 +5,12 @@ use Prim.Native.Nat.{ℕ, zero, suc, _+_, _-_, _*_, _%_, _^_, _≤_, _<_}
 use native.Mathlib.Nat.{add-assoc, zero-add, suc-add, add-zero}
 use native.Mathlib.Numerals.{add-one}
 use native.Mathlib.Omega.{arith}
-use lib.Bits.{bitXor}
-use lib.ListN.{length, getD, take, drop, set, length-set, drop-of-length-le}
-use lib.Seq.{paste, getD-take, drop-drop, take-suc-set, take-all, take-paste, drop-cons, length-take-le, length-paste}
+use lib.ListN.{length, getD, take, drop, set, drop-of-length-le}
+use lib.Seq.{paste, getD-take, drop-drop, take-suc-set, take-all, take-paste, drop-cons, length-take-le}
 use borrow.Author.Tests.{lt-ltb, le-ltb}
 use Rattle.laws.specs.Lists.{getD-part}
 use Rattle.wire.specs.BigEndian.{beAt, bytesOf, length-bytes, be-same}
-use Rattle.sha1.specs.Sha1.{rotl, ch, parity, maj, mixOf, constOf, wordsOf, nextWord, extend, schedule, Five, five, listed, turn, rounds, added, compress, hashBlocks, digestOf}
+use Rattle.sha1.specs.Sha1.{ch, parity, maj, mixOf, constOf, wordsOf, nextWord, extend, schedule, Five, five, listed, turn, rounds, added, compress, hashBlocks, digestOf}
 use Rattle.sha1.specs.Schedule.{late}
 
 -- sums of five words

@@ -1,6 +1,6 @@
 -- The words of the schedule are those of FIPS 180-4, 6.1.2: the first sixteen are the block's, and each other is made of four before it.
 -- The definition builds the list from its start, so this says that what is built later leaves the earlier words as they are. Assumes nothing.
-use mathlib.Core.Path.{_≡_, refl, sym, ap, _∙_}
+use mathlib.Core.Path.{_≡_, refl, sym, _∙_}
 use mathlib.Core.List.{List, [], _∷_, _++_}
 use mathlib.Core.Logic.{⊎-elim}
 use Prim.Native.Nat.{ℕ, zero, suc, _+_, _-_, _*_, _≤_, _<_}

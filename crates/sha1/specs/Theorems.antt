@@ -1,12 +1,13 @@
 -- What the definitions come to. A digest that is fed pieces one after the other and then finishes gives the SHA-1 of the pieces joined, whatever the
--- cutting (`pieces-finish`), and so after each piece (`each-prefix-finishes`). Feeding two pieces is feeding them joined, from any state (`feed-twice`).
+-- cutting (`pieces-finish`), and so after each piece (`each-prefix-finishes`). Feeding two pieces is feeding them joined, from any state
+-- (`feed-twice`) and to any digest (`fed-twice`).
 -- The padding is the standard's: the fewest zeros with which the length is a multiple of 64. Assumes nothing.
 use mathlib.Core.Path.{_≡_, refl, sym, ap, _∙_}
 use mathlib.Core.List.{List, [], _∷_, _++_, append-assoc, append-nil, flatten}
 use Prim.Native.Nat.{ℕ, zero, suc, _+_, _-_, _*_, _/_, _%_, _^_, _≤_, _<_}
 use native.Mathlib.Omega.{arith}
 use lib.ListN.{length, take, drop, replicate, length-append, length-drop, length-replicate}
-use lib.Seq.{drop-drop, take-append-le, drop-append-le, take-at}
+use lib.Seq.{drop-drop, take-append-le, drop-append-le, take-at, length-take-le}
 use Rattle.wire.specs.BigEndian.{bytesOf, length-bytes}
 use Rattle.sha1.specs.Sha1.{compress, hashBlocks, hashAll, initial, zerosOf, padding, digestOf, sha1}
 use Rattle.sha1.specs.Pieces.{State, lastPart, feedState, finishState, noBytes, stateAfter, filled, digestAt, stateOf, digestAfter, fed, finished, fedAll}
@@ -108,18 +109,32 @@ pub filled-start : (s : List ℕ) (n : ℕ) → length s ≡ n → take n (fille
 unfolding filled
 filled-start s n e = take-at s (replicate (64 - length s) 0) n e
 
-rest-after : (s : List ℕ) → length (lastPart s) ≡ length s % 2 ^ 64 % 64
-rest-after s = length-drop (length s / 64 * 64) s ∙ left (length s)
-  where
-    left : (n : ℕ) → n - n / 64 * 64 ≡ n % 2 ^ 64 % 64
-    left n = omega arith
+left-over : (n k : ℕ) → n % 64 + k - (n % 64 + k) / 64 * 64 ≡ (n + k) % 2 ^ 64 % 64
+left-over n k = omega arith
+
+rest-length : (r s : List ℕ) (n : ℕ) → length r ≡ n % 64 → length (lastPart (r ++ s)) ≡ (n + length s) % 2 ^ 64 % 64
+rest-length r s n e =
+    let l : length (r ++ s) ≡ n % 64 + length s = length-append r s ∙ ap (λ (k : ℕ). k + length s) e in
+    length-drop (length (r ++ s) / 64 * 64) (r ++ s) ∙ ap (λ (k : ℕ). k - k / 64 * 64) l ∙ left-over n (length s)
+
+pub holds-fed : (x : State) (s : List ℕ) → length (x .rest) ≡ x .count % 64 → stateOf (digestAt (feedState x s)) ≡ feedState x s
+unfolding feedState
+holds-fed x s e =
+    let n = (x .count + length s) % 2 ^ 64 in
+    let r : take (n % 64) (filled (lastPart (x .rest ++ s))) ≡ lastPart (x .rest ++ s) = filled-start (lastPart (x .rest ++ s)) (n % 64) (rest-length (x .rest) s (x .count) e) in
+    λ k. record { hash = hashAll (x .hash) (x .rest ++ s); rest = r k; count = n }
 
 pub holds-after : (s : List ℕ) → stateOf (digestAfter s) ≡ stateAfter s
-unfolding digestAfter stateAfter feedState
-holds-after s =
-    let n : (0 + length s) % 2 ^ 64 ≡ length s % 2 ^ 64 = ap (λ (n : ℕ). n % 2 ^ 64) (omega arith) in
-    let r : take ((0 + length s) % 2 ^ 64 % 64) (filled (lastPart s)) ≡ lastPart s = filled-start (lastPart s) ((0 + length s) % 2 ^ 64 % 64) (rw n (rest-after s)) in
-    λ k. record { hash = hashAll initial s; rest = r k; count = (0 + length s) % 2 ^ 64 }
+unfolding digestAfter stateAfter
+holds-after s = holds-fed noBytes s refl
+
+-- two pieces, fed to any digest that a program can hold
+pub fed-twice : (d : Digest) (s t : List ℕ) → length (d .block) ≡ 64 → fed (fed d s) t ≡ fed d (s ++ t)
+unfolding fed
+fed-twice d s t l =
+    let small : d .len % 64 < 64 = omega arith in
+    ap (λ (x : State). digestAt (feedState x t)) (holds-fed (stateOf d) s (length-take-le (d .len % 64) (d .block) (omega arith)))
+    ∙ ap digestAt (feed-twice (stateOf d) s t)
 
 -- a digest that stands for a message, after one more piece, and its end
 -- the definition, opened

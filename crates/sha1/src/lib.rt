@@ -11,6 +11,18 @@ ghost use Rattle.sha1.specs.Pieces.{filled, digestAfter, fed, finished};
 // The bytes of a block.
 const BLOCK: usize = 64;
 
+// A count of bytes below this has a count of bits in 64 bits.
+const BIT_COUNTS: u64 = 0x2000_0000_0000_0000;
+
+// The hash value of no blocks.
+const INITIAL: [u32; 5] = [
+    0x6745_2301,
+    0xefcd_ab89,
+    0x98ba_dcfe,
+    0x1032_5476,
+    0xc3d2_e1f0,
+];
+
 // The constant of each run of twenty rounds.
 const K_CH: u32 = 0x5a82_7999;
 
@@ -87,7 +99,7 @@ fn words(s: &[u8], at: usize) -> [u32; 80]
     w
 }
 
-// The first variable's next value, of the sum that a round takes.
+// The first variable's next value.
 fn sum(a: u32, f: u32, e: u32, k: u32, w: u32) -> u32
     ensures { λ r. ⌜ r ≡ (rotl 5 a + f + e + k + w) % 2 ^ 32 ⌝ }
 {
@@ -243,13 +255,7 @@ impl Digest {
         ensures { λ r. ⌜ r ≡ digestAfter [] ⌝ }
     {
         Digest {
-            h: [
-                0x6745_2301,
-                0xefcd_ab89,
-                0x98ba_dcfe,
-                0x1032_5476,
-                0xc3d2_e1f0,
-            ],
+            h: INITIAL,
             block: [0; 64],
             len: 0,
         }
@@ -292,7 +298,7 @@ impl Digest {
     {
         let len = self.len;
         let zeros = (119 - (len % 64) as usize) % BLOCK;
-        let bits = len % 0x2000_0000_0000_0000 * 8;
+        let bits = len % BIT_COUNTS * 8;
         let mut pad = [0u8; 72];
         pad[0] = 128;
         wire::put64(&mut pad, zeros + 1, bits);

@@ -1,7 +1,6 @@
 -- `sha1::bytes_of` meets its contract. The loop's invariant: the bytes of the words so far, and then those of the others, are the digest. Assumes nothing.
 use borrow.Author.Needs.{needs}
-use native.Mathlib.Omega.{arith}
-use mathlib.Core.Path.{_≡_, refl, _∙_}
+use mathlib.Core.Path.{_≡_, refl}
 use mathlib.Core.List.{_++_}
 use Prim.Native.Nat.{_-_, _*_, _≤_}
 use lib.ListN.{length, take, drop}

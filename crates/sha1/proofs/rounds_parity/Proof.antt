@@ -1,6 +1,5 @@
 -- `sha1::rounds_parity` meets its contract: the rounds are those of `run-parity`, and each turn of the loop is one of them. Assumes nothing.
 use borrow.Author.Needs.{needs}
-use native.Mathlib.Omega.{arith}
 use Prim.Native.Nat.{_-_}
 use Rattle.sha1.proofs.Laws.{Left, left-start, left-more, left-end, run-parity}
 use Rattle.sha1.proofs.rounds_parity.Statement.{statement}

@@ -3,7 +3,7 @@ use borrow.Author.Needs.{needs}
 use native.Mathlib.Omega.{arith}
 use mathlib.Core.Path.{_≡_, refl}
 use Prim.Native.Nat.{_-_, _≤_}
-use lib.ListN.{length, take, drop, length-set}
+use lib.ListN.{length, take, drop}
 use Rattle.sha1.specs.Sha1.{wordsOf}
 use Rattle.sha1.proofs.Laws.{words-more, schedule-parts}
 use Rattle.sha1.proofs.words.Statement.{statement}
