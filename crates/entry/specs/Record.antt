@@ -1,12 +1,14 @@
 -- A record's bytes, over the length of an id, and a record put into its table (01, How an entry is spelled: "A record holds all fields above and its path's start
 -- and end"). Assumes nothing.
 use Prim.Native.Nat.{ℕ, _+_, _-_, _*_, _/_}
-use mathlib.Core.List.{List, _++_}
+use mathlib.Core.Bool.{Bool, false}
+use mathlib.Core.List.{List, [], _++_}
 use lib.ListN.{length, take, drop, replicate}
 use lib.Dec.{leb, ltb}
 use lib.Seq.{paste}
 use Rattle.laws.specs.Pick.{pick}
 use Rattle.wire.specs.BigEndian.{beAt, bytesOf}
+use Rattle.entry.specs.Flags.{stageRaw}
 use Rattle.entry.specs.Mode.{modeIn}
 
 abbrev pub recordSize : ℕ
@@ -33,3 +35,37 @@ putRecord id s at flags start end rs i =
     pick (leb (at + (40 + id)) (length s))
     (pick (ltb i (recordsIn rs)) (paste rs (i * recordSize) (recordOf id s at flags start end) recordSize) rs)
     rs
+
+-- ---- what a table's record holds
+
+-- the number of w bytes at k of record i; 0 behind the last record
+unfoldable pub fieldAt : ℕ → ℕ → List ℕ → ℕ → ℕ
+fieldAt w k rs i = pick (ltb i (recordsIn rs)) (beAt w rs (i * recordSize + k)) 0
+
+abbrev pub modeAt : List ℕ → ℕ → ℕ
+modeAt = fieldAt 4 24
+
+abbrev pub flagsAt : List ℕ → ℕ → ℕ
+flagsAt = fieldAt 4 72
+
+abbrev pub stageAt : List ℕ → ℕ → ℕ
+stageAt rs i = stageRaw (flagsAt rs i)
+
+-- where its path starts and ends in the path store
+abbrev pub startAt : List ℕ → ℕ → ℕ
+startAt = fieldAt 8 76
+
+abbrev pub endAt : List ℕ → ℕ → ℕ
+endAt = fieldAt 8 84
+
+-- the id, over its length; zeros behind the last record
+unfoldable pub idAt : ℕ → List ℕ → ℕ → List ℕ
+idAt id rs i = pick (ltb i (recordsIn rs)) (take id (drop (i * recordSize + 40) rs)) (replicate id 0)
+
+-- whether record i is there and its path lies in the path store
+unfoldable pub liesInside : List ℕ → List ℕ → ℕ → Bool
+liesInside rs ps i = pick (ltb i (recordsIn rs)) (pick (leb (startAt rs i) (endAt rs i)) (leb (endAt rs i) (length ps)) false) false
+
+-- the path of record i; empty where it does not lie in the path store
+unfoldable pub pathAt : List ℕ → List ℕ → ℕ → List ℕ
+pathAt rs ps i = pick (liesInside rs ps i) (take (endAt rs i - startAt rs i) (drop (startAt rs i) ps)) []

@@ -16,17 +16,14 @@ keep-mode-requires c κs = search needs
 copy-bytes-requires : tie.Need-copy-bytes-requires
 copy-bytes-requires c κs = search needs
 
-add-put32 : tie.Need-add-put32
-add-put32 c = search needs
-
 put32-requires : tie.Need-put32-requires
 put32-requires c κs = search needs
 
 add-copy-bytes : tie.Need-add-copy-bytes
 add-copy-bytes c = search needs
 
-add-copy-bytes-2 : tie.Need-add-copy-bytes-2
-add-copy-bytes-2 c = search needs
+sub-copy-bytes : tie.Need-sub-copy-bytes
+sub-copy-bytes c = search needs
 
 copy-bytes-requires-2 : tie.Need-copy-bytes-requires-2
 copy-bytes-requires-2 c κs = search needs
@@ -45,10 +42,9 @@ put-front-spec =
     be32-requires
     keep-mode-requires
     copy-bytes-requires
-    add-put32
     put32-requires
     add-copy-bytes
-    add-copy-bytes-2
+    sub-copy-bytes
     copy-bytes-requires-2
     same-length
     returns)
