@@ -6,6 +6,7 @@ use lib.ListN.{length}
 use lib.Dec.{leb, eqb}
 use Rattle.laws.specs.Pick.{pick}
 use Rattle.wire.specs.BigEndian.{beAt}
+use Rattle.entry.specs.Layout.{modePlace, uidPlace}
 
 -- the bits of octal 160755: 15 to 13, 8 to 5, 3 to 2, and 0
 unfoldable pub keepMode : ℕ → ℕ
@@ -17,8 +18,8 @@ directory = 16384
 
 -- the mode of the entry at `at`, as the file spells it and as it is kept
 abbrev pub modeIn : List ℕ → ℕ → ℕ
-modeIn s at = keepMode (beAt 4 s (at + 24))
+modeIn s at = keepMode (beAt 4 s (at + modePlace))
 
--- whether the entry at `at` is a directory; no where the file ends before its mode does
+-- whether the entry at `at` is a directory; no where the file ends before its mode does, behind which uid follows
 unfoldable pub dirAt : List ℕ → ℕ → Bool
-dirAt s at = pick (leb (at + 28) (length s)) (eqb (modeIn s at) directory) false
+dirAt s at = pick (leb (at + uidPlace) (length s)) (eqb (modeIn s at) directory) false

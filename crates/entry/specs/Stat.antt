@@ -2,6 +2,7 @@
 use Prim.Native.Nat.{ℕ, _+_}
 use mathlib.Core.List.{List}
 use Rattle.wire.specs.BigEndian.{beAt}
+use Rattle.entry.specs.Layout.{ctimePlace, mtimePlace, devPlace, inoPlace, uidPlace, gidPlace, sizePlace}
 use Rattle.entry.specs.Record.{fieldAt}
 use Rattle.entry.specs.declared.stat.Time.{Time}
 use Rattle.entry.specs.declared.stat.Stat.{Stat}
@@ -11,7 +12,7 @@ abbrev pub timeOf : (ℕ → ℕ) → ℕ → Time
 timeOf f k = record { secs = f k; nsecs = f (k + 4) }
 
 abbrev pub statOf : (ℕ → ℕ) → Stat
-statOf f = record { mtime = timeOf f 8; ctime = timeOf f 0; dev = f 16; ino = f 20; uid = f 28; gid = f 32; size = f 36 }
+statOf f = record { mtime = timeOf f mtimePlace; ctime = timeOf f ctimePlace; dev = f devPlace; ino = f inoPlace; uid = f uidPlace; gid = f gidPlace; size = f sizePlace }
 
 -- of record i
 abbrev pub statAt : List ℕ → ℕ → Stat

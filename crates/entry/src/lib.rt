@@ -4,7 +4,10 @@ ghost use mathlib.Core.Path.{_≡_};
 ghost use Prim.Native.Nat.{_+_, _≤_};
 ghost use lib.ListN.{length};
 ghost use lib.Seq.{paste};
+ghost use Rattle.entry.specs.Layout.{recordSize, idSize};
 ghost use Rattle.entry.specs.Record.{recordsIn, frontOf, restOf, putRecord, fieldAt, flagsAt, modeAt, stageAt, startAt, endAt, idAt, liesInside, pathAt};
+use mode::MODE_AT;
+use mode::MODE_END;
 
 pub mod flags;
 pub mod mode;
@@ -15,11 +18,7 @@ pub const RECORD_SIZE: usize = 96;
 // The bytes of an id of SHA-1.
 pub const ID_SIZE: usize = 20;
 
-// Where the parts of a record start. As far as the id they stand as in the entry.
-const MODE_AT: usize = 24;
-
-const UID_AT: usize = 28;
-
+// Where the parts of a record start. As far as the id they stand as in the entry; zeros fill the room of an id.
 const ID_AT: usize = 40;
 
 const ZEROS_AT: usize = 60;
@@ -36,19 +35,19 @@ const REST_AT: usize = 92;
 fn put_front(file: &[u8], at: usize, slot: &mut [u8])
     requires { ⌜ at + 60 ≤ length (now file) ⌝ }
     requires { ⌜ 60 ≤ length (now slot) ⌝ }
-    ensures { λ _. ⌜ now (slot .exit) ≡ paste (now (slot .entry)) 0 (frontOf 20 (now (file .entry)) at) 60 ⌝ }
+    ensures { λ _. ⌜ now (slot .exit) ≡ paste (now (slot .entry)) 0 (frontOf idSize (now (file .entry)) at) 60 ⌝ }
 {
     let m = wire::be32(file, at + MODE_AT);
     let k = mode::keep_mode(m);
     slices::copy_bytes(file, at, MODE_AT, slot, 0);
     wire::put32(slot, MODE_AT, k);
-    slices::copy_bytes(file, at + UID_AT, ZEROS_AT - UID_AT, slot, UID_AT);
+    slices::copy_bytes(file, at + MODE_END, ZEROS_AT - MODE_END, slot, MODE_END);
 }
 
 // What follows the id.
 fn put_rest(slot: &mut [u8], flags: u32, start: usize, end: usize)
-    requires { ⌜ 96 ≤ length (now slot) ⌝ }
-    ensures { λ _. ⌜ now (slot .exit) ≡ paste (now (slot .entry)) 60 (restOf 20 flags start end) 36 ⌝ }
+    requires { ⌜ recordSize ≤ length (now slot) ⌝ }
+    ensures { λ _. ⌜ now (slot .exit) ≡ paste (now (slot .entry)) 60 (restOf idSize flags start end) 36 ⌝ }
 {
     slices::clear(slot, ZEROS_AT, FLAGS_AT - ZEROS_AT);
     wire::put32(slot, FLAGS_AT, flags);
@@ -68,7 +67,7 @@ pub fn put_record(
     records: &mut [u8],
     i: usize,
 )
-    ensures { λ _. ⌜ now (records .exit) ≡ putRecord 20 (now (file .entry)) at flags start end (now (records .entry)) i ⌝ }
+    ensures { λ _. ⌜ now (records .exit) ≡ putRecord idSize (now (file .entry)) at flags start end (now (records .entry)) i ⌝ }
 {
     if file.len() < ZEROS_AT {
         return;
@@ -95,7 +94,7 @@ pub fn records_in(records: &[u8]) -> usize
 
 // The four bytes at k of record i; 0 where there is no such record.
 fn field32(records: &[u8], i: usize, k: usize) -> u32
-    requires { ⌜ k + 4 ≤ 96 ⌝ }
+    requires { ⌜ k + 4 ≤ recordSize ⌝ }
     ensures { λ r. ⌜ r ≡ fieldAt 4 k (now (records .entry)) i ⌝ }
 {
     if i < records.len() / RECORD_SIZE {
@@ -107,7 +106,7 @@ fn field32(records: &[u8], i: usize, k: usize) -> u32
 
 // The eight bytes at k of record i; 0 where there is no such record.
 fn field64(records: &[u8], i: usize, k: usize) -> u64
-    requires { ⌜ k + 8 ≤ 96 ⌝ }
+    requires { ⌜ k + 8 ≤ recordSize ⌝ }
     ensures { λ r. ⌜ r ≡ fieldAt 8 k (now (records .entry)) i ⌝ }
 {
     if i < records.len() / RECORD_SIZE {
@@ -149,8 +148,8 @@ pub fn path_end_at(records: &[u8], i: usize) -> u64
 }
 
 // The id of record i; zeros where there is no such record.
-pub fn id_at(records: &[u8], i: usize) -> [u8; 20]
-    ensures { λ r. ⌜ r ≡ idAt 20 (now (records .entry)) i ⌝ }
+pub fn id_at(records: &[u8], i: usize) -> [u8; ID_SIZE]
+    ensures { λ r. ⌜ r ≡ idAt idSize (now (records .entry)) i ⌝ }
 {
     let mut id = [0u8; ID_SIZE];
     if records.len() / RECORD_SIZE <= i {

@@ -2,6 +2,11 @@
 ghost use mathlib.Core.Path.{_≡_};
 ghost use Rattle.entry.specs.Mode.{keepMode, dirAt};
 
+// Where the mode of an entry starts and where it ends.
+pub const MODE_AT: usize = 24;
+
+pub const MODE_END: usize = 28;
+
 // A directory that a sparse index leaves out, octal 040000.
 pub const DIR: u32 = 16384;
 
@@ -16,13 +21,13 @@ pub fn keep_mode(m: u32) -> u32
 pub fn is_dir(file: &[u8], at: usize) -> bool
     ensures { λ r. ⌜ r ≡ dirAt (now (file .entry)) at ⌝ }
 {
-    if file.len() < 28 {
+    if file.len() < MODE_END {
         return false;
     }
-    if file.len() - 28 < at {
+    if file.len() - MODE_END < at {
         return false;
     }
-    let m = wire::be32(file, at + 24);
+    let m = wire::be32(file, at + MODE_AT);
     let k = keep_mode(m);
     k == DIR
 }

@@ -1,6 +1,7 @@
 // What the file system said of an entry's file when it was added.
 ghost use mathlib.Core.Path.{_≡_};
 ghost use Prim.Native.Nat.{_+_, _≤_};
+ghost use Rattle.entry.specs.Layout.{recordSize};
 ghost use Rattle.entry.specs.Record.{fieldAt};
 ghost use Rattle.entry.specs.Stat.{timeOf, statAt};
 
@@ -36,7 +37,7 @@ pub struct Stat {
 
 // The time whose seconds stand at k of record i.
 fn time_at(records: &[u8], i: usize, k: usize) -> Time
-    requires { ⌜ k + 8 ≤ 96 ⌝ }
+    requires { ⌜ k + 8 ≤ recordSize ⌝ }
     ensures { λ r. ⌜ r ≡ timeOf (λ p. fieldAt 4 p (now (records .entry)) i) k ⌝ }
 {
     let secs = super::field32(records, i, k);
