@@ -1,4 +1,5 @@
-use Rattle.extension.proofs.Laws.{tables}
+use native.Mathlib.Omega.{arith}
+use Rattle.extension.proofs.Laws.{tables, pair-inside}
 use borrow.Author.Needs.{needs}
 use Rattle.extension.proofs.index_entry_offset_table.pair_at.Statement.{statement}
 use Rattle.extension.proofs.index_entry_offset_table.pair_at.Tie as tie
@@ -20,22 +21,22 @@ returns : tie.Need-returns
 returns c = search (tables, needs)
 
 add-at : tie.Need-add-at
-add-at c = search (tables, needs)
+add-at c = omega (arith, c .before .before .before .before .before .before .before .good, pair-inside _ (c .before .before .before .before .before .before .before .args .start .0) _ (c .before .before .before .before .before .before .before .args .k) _ (c .before .before .before .before .before .decode .ensures) _ (c .before .before .before .t .given .1) (c .before .if1 .left))
 
 mul-at : tie.Need-mul-at
-mul-at c = search (tables, needs)
+mul-at c = omega (arith, c .before .before .before .before .before .before .before .good, pair-inside _ (c .before .before .before .before .before .before .before .args .start .0) _ (c .before .before .before .before .before .before .before .args .k) _ (c .before .before .before .before .before .decode .ensures) _ (c .before .before .before .t .given .1) (c .before .if1 .left))
 
 add-at-2 : tie.Need-add-at-2
-add-at-2 c = search (tables, needs)
+add-at-2 c = omega (arith, c .before .before .before .before .before .before .before .good, pair-inside _ (c .before .before .before .before .before .before .before .args .start .0) _ (c .before .before .before .before .before .before .before .args .k) _ (c .before .before .before .before .before .decode .ensures) _ (c .before .before .before .t .given .1) (c .before .if1 .left))
 
 be32-requires : tie.Need-be32-requires
-be32-requires c κs = search (tables, needs)
+be32-requires c κs = omega (arith, c .before .before .before .before .before .before .before .good, pair-inside _ (c .before .before .before .before .before .before .before .args .start .0) _ (c .before .before .before .before .before .before .before .args .k) _ (c .before .before .before .before .before .decode .ensures) _ (c .before .before .before .t .given .1) (c .before .if1 .left))
 
 add-be32 : tie.Need-add-be32
-add-be32 c = search (tables, needs)
+add-be32 c = omega (arith, c .before .before .before .before .before .before .before .before .good, pair-inside _ (c .before .before .before .before .before .before .before .before .args .start .0) _ (c .before .before .before .before .before .before .before .before .args .k) _ (c .before .before .before .before .before .before .decode .ensures) _ (c .before .before .before .before .t .given .1) (c .before .before .if1 .left))
 
 be32-requires-2 : tie.Need-be32-requires-2
-be32-requires-2 c κs = search (tables, needs)
+be32-requires-2 c κs = omega (arith, c .before .before .before .before .before .before .before .before .good, pair-inside _ (c .before .before .before .before .before .before .before .before .args .start .0) _ (c .before .before .before .before .before .before .before .before .args .k) _ (c .before .before .before .before .before .before .decode .ensures) _ (c .before .before .before .before .t .given .1) (c .before .before .if1 .left))
 
 returns-2 : tie.Need-returns-2
 returns-2 c = search (tables, needs)
