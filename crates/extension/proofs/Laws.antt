@@ -1,20 +1,30 @@
 -- Laws of the crate's definitions in the directions that the code's proofs ask. Assumes nothing.
 use mathlib.Core.Path.{_≡_, refl, sym, ap, _∙_}
 use mathlib.Core.Bool.{Bool, true, false}
-use mathlib.Core.List.{List, [], _∷_}
-use Prim.Native.Nat.{ℕ, suc, _+_, _-_, _*_, _/_, _%_, _≤_, _<_}
+use mathlib.Core.List.{List, [], _∷_, _++_, flatten}
+use Prim.Native.Nat.{ℕ, zero, suc, _+_, _-_, _*_, _/_, _%_, _≤_, _<_}
 use native.Mathlib.Omega.{arith}
-use lib.ListN.{length}
+use lib.ListN.{length, take, drop, length-append}
+use lib.Seq.{take-all}
 use lib.Dec.{ltb, leb, eqb}
 use borrow.Author.Tests.{lt-ltb, le-ltb, le-leb, lt-leb, eq-eqb, ne-eqb}
-use Rattle.wire.specs.BigEndian.{beAt}
+use Rattle.wire.specs.BigEndian.{beAt, bytesOf, length-bytes}
 use Rattle.wire.specs.Places.{fileAt}
 use Rattle.wire.specs.declared.FileAt.{FileAt}
-use Rattle.extension.specs.Signatures.{sdir, IEOT, header-size}
-use Rattle.extension.specs.Iter.{cursor, extensionAt, stepAt, runAt, ofSignature, firstWhere, lastWhere, firstAt}
+use Rattle.slices.specs.Bytes.{sameBytes}
+use Rattle.sha1.specs.Sha1.{added, compress, hashBlocks, hashAll, initial, padding, digestOf, sha1}
+use Rattle.sha1.specs.Pieces.{digestAfter, fed, finished, fedAll}
+use Rattle.sha1.specs.Theorems.{pieces-finish}
+use Rattle.sha1.specs.declared.Digest.{Digest}
+use Rattle.extension.specs.Signatures.{sdir, IEOT, EOIE, header-size}
+use Rattle.extension.specs.Iter.{onBody, cursor, extensionAt, stepAt, Run, runAt, ofSignature, firstWhere, lastWhere, firstAt}
 use Rattle.extension.specs.Theorems.{Met, met, Tabled, tabled, run-done, run-broken, run-more}
 use Rattle.extension.specs.Decode.{mandatory, forbidden, marks, latest, sparseIn, judged, walkFrom, walkAt}
-use Rattle.extension.specs.IndexEntryOffsetTable.{tableAt, pairsIn, onTable, onBody, pairIn, tableIn, tableFrom, pairFrom}
+use Rattle.extension.specs.IndexEntryOffsetTable.{tableAt, pairsIn, onTable, pairIn, tableIn, tableFrom, pairFrom}
+use Rattle.extension.specs.EndOfIndexEntry.{headersOf, lastBody, priorAt, verifiedAt, offsetAt, offsetIn}
+use Rattle.extension.specs.declared.end_of_index_entry.Prior.{Prior}
+use Rattle.extension.specs.declared.end_of_index_entry.Told.{Told}
+use Rattle.extension.specs.declared.end_of_index_entry.Told.the-variants.{Offset as To, Nothing}
 use Rattle.extension.specs.declared.iter.Cursor.{Cursor}
 use Rattle.extension.specs.declared.iter.Step.{Step}
 use Rattle.extension.specs.declared.iter.Step.the-variants.{Extension, Done, Broken}
@@ -239,3 +249,132 @@ module _ (h : ℕ) (s : List ℕ) (offset : ℕ) where
     ask-is k start stop q p y = y ∙ sym (rw (← e, q))
 
 pub ruleset tables = (table-beyond, table-before, table-short, table-other, table-none, table-over, table-is, pair-none, pair-beyond, pair-is, body-short, body-far, body-is, find-none, find-is, ask-none, ask-is)
+
+-- ---- EOIE: what is left of the extensions in front of it, from the present cursor, comes to r
+
+abbrev pub leftOver : List ℕ → Digest → Body → Run → Prior
+leftOver s d last r = record { sum = finished (fedAll d (headersOf s (r .items))); last = lastWhere (λ f. true) last (r .items) }
+
+pub prior-start : (s : List ℕ) (from end : ℕ) (d : Digest) → d ≡ digestAfter [] → leftOver s d Missing (runAt s from end) ≡ priorAt s from end
+unfolding priorAt
+prior-start s from end d e = rw (e, pieces-finish)
+
+module _ (s : List ℕ) (c : Cursor) (x : Step) (e : x ≡ stepAt s (c .at .0) (c .end .0)) where
+  -- the header that is fed lies in the file
+  module _ (signature : ℕ) (start stop : FileAt) (next : Cursor) (q : x ≡ Extension signature start stop next) where
+    meets : Met s (c .at .0) (c .end .0) signature start stop next
+    meets = met s (c .at .0) (c .end .0) (sym e ∙ q)
+
+    pub head-ordered : c .at .0 ≤ start .0
+    head-ordered = omega (arith, meets .body)
+
+    pub head-inside : start .0 ≤ length s
+    head-inside = omega (arith, meets .body, meets .forward, meets .within, meets .inside)
+
+    head-long : start .0 - c .at .0 ≡ 8
+    head-long = omega (arith, meets .body)
+
+  module _ (d : Digest) (last : Body) (r : Prior) (inv : leftOver s d last (runAt s (c .at .0) (c .end .0)) ≡ r) (sum : List ℕ) where
+    pub prior-done : x ≡ Done → sum ≡ finished d → record { sum = sum; last = last } ≡ r
+    unfolding headersOf fedAll lastWhere
+    prior-done q y = rw y (sym (rw (run-done s (c .at .0) (c .end .0) (sym e ∙ q))) ∙ inv)
+
+    pub prior-broken : x ≡ Broken → sum ≡ finished d → record { sum = sum; last = last } ≡ r
+    unfolding headersOf fedAll lastWhere
+    prior-broken q y = rw y (sym (rw (run-broken s (c .at .0) (c .end .0) (sym e ∙ q))) ∙ inv)
+
+  module _ (d : Digest) (last : Body) (r : Prior) (inv : leftOver s d last (runAt s (c .at .0) (c .end .0)) ≡ r) where
+    pub prior-next : (signature : ℕ) (start stop : FileAt) (next : Cursor) → x ≡ Extension signature start stop next → (d′ : Digest) → d′ ≡ fed d (take (start .0 - c .at .0) (drop (c .at .0) s))
+        → leftOver s d′ (Lies start stop) (runAt s (next .at .0) (next .end .0)) ≡ r
+    unfolding headersOf fedAll lastWhere
+    prior-next signature start stop next q d′ y =
+        let f : Met s (c .at .0) (c .end .0) signature start stop next = met s (c .at .0) (c .end .0) (sym e ∙ q) in
+        let l : start .0 - c .at .0 ≡ 8 = omega (arith, f .body) in
+        rw (f .place, f .bound, y, l) (sym (rw (run-more s (c .at .0) (c .end .0) (sym e ∙ q))) ∙ inv)
+
+-- SHA-1 has twenty bytes
+digest-length : (h : List ℕ) → length (digestOf h) ≡ length h * 4
+unfolding digestOf
+digest-length [] = refl
+digest-length (x ∷ h) = length-append (bytesOf 4 x) (digestOf h) ∙ omega (arith, length-bytes 4 x, digest-length h)
+
+blocks-length : (n : ℕ) (h s : List ℕ) → length h ≡ 5 → length (hashBlocks n h s) ≡ 5
+unfolding hashBlocks compress added
+blocks-length zero h s e = e
+blocks-length (suc n) h s e = blocks-length n (compress h (take 64 s)) (drop 64 s) refl
+
+sum-length : (s : List ℕ) → length (sha1 s) ≡ 20
+unfolding sha1 initial
+sum-length s = digest-length (hashAll initial (s ++ padding (length s))) ∙ omega (arith, blocks-length (length (s ++ padding (length s)) / 64) initial (s ++ padding (length s)) refl)
+
+sum-twenty : (s : List ℕ) (offset start : ℕ) (p : Prior) → p ≡ priorAt s offset start → length (p .sum) ≡ 20
+unfolding priorAt
+sum-twenty s offset start p e = ap (λ (x : Prior). length (x .sum)) e ∙ sum-length (flatten (headersOf s (runAt s offset start .items)))
+
+-- EOIE has the hash of the extensions in front of it, or not, as t says
+module _ (s : List ℕ) (offset start : ℕ) (p : Prior) (e : p ≡ priorAt s offset start) where
+  pub sum-room : 20 ≤ length (p .sum)
+  sum-room = omega (arith, sum-twenty s offset start p e)
+
+  module _ (t : Bool) (y : t ≡ sameBytes (take 20 (drop 0 (p .sum))) (take 20 (drop (start + 12) s))) where
+    told : t ≡ sameBytes (sha1 (flatten (headersOf s (runAt s offset start .items)))) (take 20 (drop (start + 12) s))
+    unfolding priorAt
+    told =
+        y ∙ ap (λ (l : List ℕ). sameBytes l (take 20 (drop (start + 12) s)))
+        (take-all 20 (p .sum) (omega (arith, sum-twenty s offset start p e)) ∙ ap (λ (x : Prior). x .sum) e)
+
+    ends : p .last ≡ lastBody (runAt s offset start .items)
+    unfolding priorAt
+    ends = ap (λ (x : Prior). x .last) e
+
+    pub verified-other : t ≡ false → Nothing ≡ verifiedAt 20 sha1 s start offset
+    unfolding verifiedAt
+    verified-other z = sym (rw (← told, z))
+
+    module _ (z : t ≡ true) where
+      pub verified-none : p .last ≡ Missing → Nothing ≡ verifiedAt 20 sha1 s start offset
+      unfolding verifiedAt
+      verified-none q = sym (rw (← told, z, ← ends, q))
+
+      module _ (first stop : FileAt) (q : p .last ≡ Lies first stop) where
+        pub verified-is : stop .0 ≡ start → To (fileAt offset) ≡ verifiedAt 20 sha1 s start offset
+        unfolding verifiedAt
+        verified-is w = sym (rw (← told, z, ← ends, q, eq-eqb (stop .0) start w))
+
+        pub verified-apart : (stop .0 ≡ start → ⊥) → Nothing ≡ verifiedAt 20 sha1 s start offset
+        unfolding verifiedAt
+        verified-apart w = sym (rw (← told, z, ← ends, q, ne-eqb (stop .0) start w))
+
+-- the EOIE in front of the trailer
+module _ (s : List ℕ) where
+  pub offset-short : length s < 52 → Nothing ≡ offsetIn 20 sha1 s
+  unfolding offsetIn
+  offset-short h = sym (rw (lt-ltb (length s) 52 h))
+
+  module _ (h : 52 ≤ length s) (a : ℕ) (ea : a ≡ beAt 4 s (length s - 52)) where
+    pub offset-other : (a ≡ EOIE → ⊥) → Nothing ≡ offsetIn 20 sha1 s
+    unfolding offsetIn offsetAt
+    offset-other w = sym (rw (le-ltb (length s) 52 h, ← ea, ne-eqb a EOIE w))
+
+    module _ (wa : a ≡ EOIE) (b : ℕ) (eb : b ≡ beAt 4 s (length s - 52 + 4)) where
+      pub offset-size : (b ≡ 24 → ⊥) → Nothing ≡ offsetIn 20 sha1 s
+      unfolding offsetIn offsetAt
+      offset-size w = sym (rw (le-ltb (length s) 52 h, ← ea, eq-eqb a EOIE wa, ← eb, ne-eqb b 24 w))
+
+      module _ (wb : b ≡ 24) (o : ℕ) (eo : o ≡ beAt 4 s (length s - 52 + 8)) where
+        pub offset-under : o < 12 → Nothing ≡ offsetIn 20 sha1 s
+        unfolding offsetIn offsetAt
+        offset-under w = sym (rw (le-ltb (length s) 52 h, ← ea, eq-eqb a EOIE wa, ← eb, eq-eqb b 24 wb, ← eo, lt-ltb o 12 w))
+
+        module _ (wo : 12 ≤ o) where
+          pub offset-over : length s - 52 < o → Nothing ≡ offsetIn 20 sha1 s
+          unfolding offsetIn offsetAt
+          offset-over w = sym (rw (le-ltb (length s) 52 h, ← ea, eq-eqb a EOIE wa, ← eb, eq-eqb b 24 wb, ← eo, le-ltb o 12 wo, lt-ltb (length s - 52) o w))
+
+          pub offset-is : o ≤ length s - 52 → (r : Told) → r ≡ verifiedAt 20 sha1 s (length s - 52) o → r ≡ offsetIn 20 sha1 s
+          unfolding offsetIn offsetAt
+          offset-is w r q = q ∙ sym (rw (le-ltb (length s) 52 h, ← ea, eq-eqb a EOIE wa, ← eb, eq-eqb b 24 wb, ← eo, le-ltb o 12 wo, le-ltb (length s - 52) o w))
+
+pub ruleset ends-laws = (sum-room, verified-other, verified-none, verified-is, verified-apart, offset-short, offset-other, offset-size, offset-under, offset-over, offset-is)
+
+pub ruleset priors = (step-less, prior-start, head-ordered, head-inside, prior-done, prior-broken, prior-next)

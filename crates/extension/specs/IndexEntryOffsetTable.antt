@@ -8,9 +8,9 @@ use lib.Dec.{ltb, leb, eqb}
 use Rattle.laws.specs.Pick.{pick}
 use Rattle.wire.specs.BigEndian.{beAt}
 use Rattle.extension.specs.Signatures.{IEOT}
-use Rattle.extension.specs.Iter.{firstAt}
+use Rattle.extension.specs.Iter.{onBody, firstAt}
 use Rattle.extension.specs.declared.iter.Body.{Body}
-use Rattle.extension.specs.declared.iter.Body.the-variants.{Lies, Missing}
+use Rattle.extension.specs.declared.iter.Body.the-variants.{Missing}
 use Rattle.extension.specs.declared.index_entry_offset_table.Table.{Table}
 use Rattle.extension.specs.declared.index_entry_offset_table.Table.the-variants.{Pairs, NoTable}
 use Rattle.extension.specs.declared.index_entry_offset_table.Offset.{Offset}
@@ -41,10 +41,6 @@ tableAt s start stop =
 abbrev pub onTable : {A : Type 0} → Table → A → (ℕ → A) → A
 onTable (Pairs n) none some = some n
 onTable NoTable none some = none
-
-abbrev pub onBody : {A : Type 0} → Body → A → (ℕ → ℕ → A) → A
-onBody (Lies start stop) none some = some (start .0) (stop .0)
-onBody Missing none some = none
 
 -- pair number k of the table that lies from `start` up to `stop`
 unfoldable pub pairIn : List ℕ → ℕ → ℕ → ℕ → Offset

@@ -77,6 +77,10 @@ runAt s at end = runBy (suc (end - at)) s at end
 abbrev pub bodyOf : Found → Body
 bodyOf f = Lies (f .start) (f .stop)
 
+abbrev pub onBody : {A : Type 0} → Body → A → (ℕ → ℕ → A) → A
+onBody (Lies start stop) none some = some (start .0) (stop .0)
+onBody Missing none some = none
+
 abbrev pub ofSignature : ℕ → Found → Bool
 ofSignature wanted f = eqb (f .signature) wanted
 
