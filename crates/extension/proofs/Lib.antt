@@ -1,0 +1,2 @@
+-- What the proofs of extension share.
+pub mod Laws

@@ -1,0 +1,15 @@
+use borrow.Author.Needs.{needs}
+use Rattle.extension.proofs.Laws.{walks}
+use Rattle.extension.proofs.decode.mark.Statement.{statement}
+use Rattle.extension.proofs.decode.mark.Tie as tie
+use Rattle.extension.proofs.decode.mark.Reads as reads
+use Rattle.extension.proofs.decode.mark.Lts as lts
+
+returns : tie.Need-returns
+returns c = search (walks, needs)
+
+returns-2 : tie.Need-returns-2
+returns-2 c = search (walks, needs)
+
+pub mark-spec : {M : Type 1} → statement M
+mark-spec = tie.close (tie.spec returns returns-2)

@@ -1,0 +1,30 @@
+use Rattle.extension.proofs.Laws.{tables}
+use borrow.Author.Needs.{needs}
+use Rattle.extension.proofs.index_entry_offset_table.pair.Statement.{statement}
+use Rattle.extension.proofs.index_entry_offset_table.pair.Tie as tie
+use Rattle.extension.proofs.index_entry_offset_table.pair.Reads as reads
+use Rattle.extension.proofs.index_entry_offset_table.pair.Lts as lts
+use Rattle.extension.proofs.index_entry_offset_table.body.Reads as body-reads
+use Rattle.extension.proofs.index_entry_offset_table.pair_at.Reads as pair-at-reads
+
+body-requires : tie.Need-body-requires
+body-requires c κs = search (tables, needs)
+
+enum-told : tie.Need-enum-told
+enum-told c = search (tables, needs)
+
+enum-known-b : tie.Need-enum-known-b
+enum-known-b c = search (tables, needs)
+
+pair-at-requires : tie.Need-pair-at-requires
+pair-at-requires c κs = search (tables, needs)
+
+returns : tie.Need-returns
+returns c = search (tables, needs)
+
+returns-2 : tie.Need-returns-2
+returns-2 c = search (tables, needs)
+
+pub pair-spec : {M : Type 1} → statement M
+pair-spec =
+    tie.close (tie.spec body-requires enum-told enum-known-b pair-at-requires returns returns-2)

@@ -1,0 +1,65 @@
+-- The space behind the entries (01, "Extensions": "They fill the space from the last entry to the last 20 bytes exactly") and rows 7 and 8 of "When the desk says no".
+-- Assumes nothing.
+use Prim.Native.Nat.{ℕ, _/_}
+use mathlib.Core.Bool.{Bool, true, false}
+use mathlib.Core.List.{List, [], _∷_}
+use lib.Dec.{ltb, leb, eqb}
+use Rattle.laws.specs.Pick.{pick}
+use Rattle.wire.specs.Places.{fileAt}
+use Rattle.wire.specs.declared.FileAt.{FileAt}
+use Rattle.refusal.specs.Refusal as refusal
+use Rattle.extension.specs.Signatures.{sdir}
+use Rattle.extension.specs.Iter.{Found, Ending, filled, stray, Run, runAt, ofSignature, lastWhere}
+use Rattle.extension.specs.declared.iter.Body.{Body}
+use Rattle.extension.specs.declared.iter.Body.the-variants.{Lies, Missing}
+use Rattle.extension.specs.declared.decode.Walked.{Walked}
+use Rattle.extension.specs.declared.decode.Walked.the-variants.{Filled, NotFilled, Mandatory}
+
+-- an extension is mandatory when its signature's first byte lies in 97 to 122
+abbrev pub mandatory : ℕ → Bool
+mandatory first = pick (leb 97 first) (leb first 122) false
+
+-- what makes a reader stop: a mandatory extension that is no empty `sdir`
+unfoldable pub forbidden : ℕ → ℕ → ℕ → Bool
+forbidden signature start stop = pick (mandatory (signature / 16777216)) (pick (eqb signature sdir) (ltb start stop) true) false
+
+abbrev pub isForbidden : Found → Bool
+isForbidden f = forbidden (f .signature) (f .start .0) (f .stop .0)
+
+-- the mark after one more extension
+abbrev pub marks : ℕ → Bool → Bool
+marks signature sparse = pick (eqb signature sdir) true sparse
+
+-- the last body of the wanted signature after one more extension
+abbrev pub latest : ℕ → ℕ → FileAt → FileAt → Body → Body
+latest wanted signature start stop last = pick (eqb signature wanted) (Lies start stop) last
+
+-- whether an `sdir` is among the extensions, or the index was marked before
+unfoldable pub sparseIn : Bool → List Found → Bool
+sparseIn sparse [] = sparse
+sparseIn sparse (f ∷ fs) = sparseIn (marks (f .signature) sparse) fs
+
+-- the first fault in file order; where there is none, what is given
+unfoldable pub judged : List Found → Ending → Walked → Walked
+judged [] filled good = good
+judged [] (stray place) good = NotFilled (fileAt place)
+judged (f ∷ fs) ending good = pick (isForbidden f) (Mandatory (f .signature)) (judged fs ending good)
+
+-- what a run comes to, after a mark and a last body that were met before it
+abbrev pub walkFrom : ℕ → Bool → Body → Run → Walked
+walkFrom wanted sparse last r = judged (r .items) (r .ending) (Filled (sparseIn sparse (r .items)) (lastWhere (ofSignature wanted) last (r .items)))
+
+-- the space from `from` up to `end`: the first fault, or the mark and the last extension of the wanted signature
+unfoldable pub walkAt : List ℕ → ℕ → ℕ → ℕ → Walked
+walkAt s from end wanted = walkFrom wanted false Missing (runAt s from end)
+
+-- 01's number of an answer, 0 where nothing is refused, and the value that is carried with it
+abbrev pub numberOf : Walked → ℕ
+numberOf (Filled sparse body) = 0
+numberOf (NotFilled place) = refusal.not-filled
+numberOf (Mandatory signature) = refusal.mandatory
+
+abbrev pub carried : Walked → ℕ
+carried (Filled sparse body) = 0
+carried (NotFilled place) = place .0
+carried (Mandatory signature) = signature

@@ -1,0 +1,69 @@
+-- EOIE (gitformat-index, "End of Index Entry"; 01, "Extensions": "the 32 bytes before the trailer: signature, size 24, offset, SHA-1 of the signatures and sizes of the
+-- extensions from that offset"). h is the id's length, which is the hash's and the trailer's, and `hash` the hash. Assumes nothing.
+use Prim.Native.Nat.{ℕ, _+_, _-_}
+use mathlib.Core.Bool.{Bool, true, false}
+use mathlib.Core.List.{List, [], _∷_, flatten}
+use lib.ListN.{length, take, drop}
+use lib.Dec.{ltb, eqb}
+use Rattle.laws.specs.Pick.{pick}
+use Rattle.slices.specs.Bytes.{sameBytes}
+use Rattle.wire.specs.BigEndian.{beAt}
+use Rattle.wire.specs.Places.{fileAt}
+use Rattle.sha1.specs.Sha1.{sha1}
+use Rattle.extension.specs.Signatures.{EOIE, header-size}
+use Rattle.extension.specs.Iter.{Found, runAt, lastWhere, onBody}
+use Rattle.extension.specs.declared.iter.Body.{Body}
+use Rattle.extension.specs.declared.iter.Body.the-variants.{Missing}
+use Rattle.extension.specs.declared.end_of_index_entry.Prior.{Prior}
+use Rattle.extension.specs.declared.end_of_index_entry.Told.{Told}
+use Rattle.extension.specs.declared.end_of_index_entry.Told.the-variants.{Offset, Nothing}
+
+-- how long the file's own header is
+abbrev pub file-header-size : ℕ
+file-header-size = 12
+
+-- how many bytes an offset takes
+abbrev pub offset-size : ℕ
+offset-size = 4
+
+-- how long EOIE's body is, and how long it is with its header
+abbrev pub body-size : ℕ → ℕ
+body-size h = offset-size + h
+
+abbrev pub whole-size : ℕ → ℕ
+whole-size h = header-size + body-size h
+
+-- the headers of extensions, which are their signatures and sizes
+unfoldable pub headersOf : List ℕ → List Found → List (List ℕ)
+headersOf s [] = []
+headersOf s (f ∷ fs) = take header-size (drop (f .place) s) ∷ headersOf s fs
+
+-- the last of the extensions, whatever its signature
+abbrev pub lastBody : List Found → Body
+lastBody fs = lastWhere (λ f. true) Missing fs
+
+unfoldable pub priorAt : List ℕ → ℕ → ℕ → Prior
+priorAt s from end = record { sum = sha1 (flatten (headersOf s (runAt s from end .items))); last = lastBody (runAt s from end .items) }
+
+-- the offset, where the extensions from it up to `start` have the hash that EOIE has, there are some, and the last of them ends at `start`
+unfoldable pub verifiedAt : ℕ → (List ℕ → List ℕ) → List ℕ → ℕ → ℕ → Told
+verifiedAt h hash s start offset =
+    pick (sameBytes (hash (flatten (headersOf s (runAt s offset start .items)))) (take h (drop (start + (header-size + offset-size)) s)))
+    (onBody (lastBody (runAt s offset start .items)) Nothing
+    (λ first behind. pick (eqb behind start) (Offset (fileAt offset)) Nothing))
+    Nothing
+
+-- an EOIE that begins at `start`
+unfoldable pub offsetAt : ℕ → (List ℕ → List ℕ) → List ℕ → ℕ → Told
+offsetAt h hash s start =
+    pick (eqb (beAt 4 s start) EOIE)
+    (pick (eqb (beAt 4 s (start + 4)) (body-size h))
+    (pick (ltb (beAt 4 s (start + 8)) file-header-size) Nothing
+    (pick (ltb start (beAt 4 s (start + 8))) Nothing
+    (verifiedAt h hash s start (beAt 4 s (start + 8)))))
+    Nothing)
+    Nothing
+
+-- the EOIE in front of the trailer
+unfoldable pub offsetIn : ℕ → (List ℕ → List ℕ) → List ℕ → Told
+offsetIn h hash s = pick (ltb (length s) (whole-size h + h)) Nothing (offsetAt h hash s (length s - (whole-size h + h)))

@@ -1,0 +1,23 @@
+-- Numbers of the format that extensions have: signatures, each as one big-endian number, and how long a header is (gitformat-index, "Extensions"; 01, "Extensions").
+-- Assumes nothing.
+use Prim.Native.Nat.{ℕ}
+
+-- "TREE"
+abbrev pub TREE : ℕ
+TREE = 1414677829
+
+-- "sdir"
+abbrev pub sdir : ℕ
+sdir = 1935960434
+
+-- "IEOT"
+abbrev pub IEOT : ℕ
+IEOT = 1229279060
+
+-- "EOIE"
+abbrev pub EOIE : ℕ
+EOIE = 1162824005
+
+-- 4 signature bytes and 4 of a size
+abbrev pub header-size : ℕ
+header-size = 8

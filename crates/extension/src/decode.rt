@@ -1,0 +1,93 @@
+// All extensions of a file: they fill the space behind the entries exactly, and none is there that must be understood and is not.
+ghost use mathlib.Core.Path.{_≡_};
+ghost use Prim.Native.Nat.{_/_};
+ghost use Rattle.extension.specs.Decode.{mandatory, forbidden, marks, latest, walkAt};
+use crate::SDIR;
+use crate::iter::Body;
+use crate::iter::Cursor;
+use crate::iter::Step;
+use wire::FileAt;
+
+// What the space behind the entries comes to: whether the index is marked sparse, and where the last extension of the wanted signature lies; or the place where
+// no extension stands although the space is not used up; or the signature of an extension that must be understood and is not.
+pub enum Walked {
+    Filled { sparse: bool, body: Body },
+    NotFilled(FileAt),
+    Mandatory(u32),
+}
+
+// Whether an extension must be understood, by its signature's first byte.
+fn is_mandatory(first: u8) -> bool
+    ensures { λ r. ⌜ r ≡ mandatory first ⌝ }
+{
+    match first {
+        97..=122 => true,
+        _ => false,
+    }
+}
+
+// Whether an extension is one that the reader must refuse: it must be understood, and is no empty `sdir`.
+fn is_forbidden(signature: u32, start: FileAt, stop: FileAt) -> bool
+    ensures { λ r. ⌜ r ≡ forbidden signature (start .0) (stop .0) ⌝ }
+{
+    let first = (signature / 16777216) as u8;
+    if is_mandatory(first) {
+        if signature == SDIR {
+            return start.0 < stop.0;
+        }
+        return true;
+    }
+    false
+}
+
+// The mark after one more extension.
+fn mark(signature: u32, sparse: bool) -> bool
+    ensures { λ r. ⌜ r ≡ marks signature sparse ⌝ }
+{
+    if signature == SDIR {
+        return true;
+    }
+    sparse
+}
+
+// The last body of the wanted signature after one more extension.
+fn later(wanted: u32, signature: u32, start: FileAt, stop: FileAt, last: Body) -> Body
+    ensures { λ r. ⌜ r ≡ latest wanted signature start stop last ⌝ }
+{
+    if signature == wanted {
+        return Body::Lies { start, stop };
+    }
+    last
+}
+
+// Walks the space from `from` up to `end`.
+pub fn walk(file: &[u8], from: FileAt, end: FileAt, wanted: u32) -> Walked
+    ensures { λ r. ⌜ r ≡ walkAt (now (file .entry)) (from .0) (end .0) wanted ⌝ }
+{
+    let mut here = Cursor { at: from, end };
+    let mut sparse = false;
+    let mut last = Body::Missing;
+    loop {
+        let s = here.step(file);
+        match s {
+            Step::Done => return Walked::Filled { sparse, body: last },
+            Step::Broken => {
+                let place = here.at;
+                return Walked::NotFilled(place);
+            }
+            Step::Extension {
+                signature,
+                start,
+                stop,
+                next,
+            } => {
+                if is_forbidden(signature, start, stop) {
+                    return Walked::Mandatory(signature);
+                }
+                sparse = mark(signature, sparse);
+                last = later(wanted, signature, start, stop, last);
+                here = next;
+            }
+        }
+    }
+}

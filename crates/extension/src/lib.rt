@@ -1,0 +1,21 @@
+// The extensions of an index: 4 signature bytes, a big-endian 32-bit size, and that many bytes, one behind the other. `iter` walks them, `decode` reads the
+// whole space behind the entries, and the two others read the extensions that speed up reading.
+pub mod decode;
+pub mod end_of_index_entry;
+pub mod index_entry_offset_table;
+pub mod iter;
+
+// The signatures that are looked at, each as one big-endian number.
+pub const TREE: u32 = 0x5452_4545;
+
+pub const SDIR: u32 = 0x7364_6972;
+
+pub const IEOT: u32 = 0x4945_4f54;
+
+pub const EOIE: u32 = 0x454f_4945;
+
+// What stands before an extension's body: signature and size.
+pub const HEADER: usize = 8;
+
+// How long the trailer is, an id of SHA-1.
+pub const TRAILER: usize = 20;
