@@ -6,3 +6,5 @@ pub mod Extension
 pub mod Tree
 pub mod File
 pub mod Walk
+pub mod DecideNumber
+pub mod DecideEntry
