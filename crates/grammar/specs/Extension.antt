@@ -53,8 +53,12 @@ pub data NoneSigned (signature : List ℕ) : List Ext → Type 0 where
   none-left : NoneSigned signature []
   another : {e : Ext} {es : List Ext} → (e .signature ≡ signature → ⊥) → NoneSigned signature es → NoneSigned signature (e ∷ es)
 
--- the last one with this signature, of extensions that begin at a place of the file: the place of its body, and its body
-pub data LastSigned (signature : List ℕ) : ℕ → List Ext → ℕ → List ℕ → Type 0 where
-  this : {at : ℕ} {e : Ext} {es : List Ext} → e .signature ≡ signature → NoneSigned signature es → LastSigned signature at (e ∷ es) (at + extensionHeader) (e .body)
-  further : {at place : ℕ} {e : Ext} {es : List Ext} {body : List ℕ} → LastSigned signature (at + extensionHeader + length (e .body)) es place body
-      → LastSigned signature at (e ∷ es) place body
+-- the bytes that extensions take
+abbrev pub bytesOf : List Ext → ℕ
+bytesOf [] = 0
+bytesOf (e ∷ es) = extensionHeader + length (e .body) + bytesOf es
+
+-- of extensions that begin at a place of the file, the last one with this signature: none behind it has it. The place of its body, and its body
+pub data LastSigned (signature : List ℕ) (at : ℕ) (es : List Ext) : ℕ → List ℕ → Type 0 where
+  last-signed : (before : List Ext) {e : Ext} {behind : List Ext} → es ≡ before ++ (e ∷ behind) → e .signature ≡ signature → NoneSigned signature behind
+      → LastSigned signature at es (at + bytesOf before + extensionHeader) (e .body)

@@ -8,3 +8,6 @@ pub mod File
 pub mod Walk
 pub mod DecideNumber
 pub mod DecideEntry
+pub mod DecideExtension
+pub mod DecideTree
+pub mod DecideFile
