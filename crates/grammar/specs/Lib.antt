@@ -11,3 +11,5 @@ pub mod DecideEntry
 pub mod DecideExtension
 pub mod DecideTree
 pub mod DecideFile
+pub mod Unique
+pub mod Examples
