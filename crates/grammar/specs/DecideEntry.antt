@@ -117,7 +117,7 @@ flags-reads = record { says = says; complete = complete }
         says-if-same (extendedBit bits) 0 (λ e. spelled b i (flags-of (plain x e))) (λ d.
         says-next (big-reads 2 .says r) (λ c marks q j y.
         says-if-less marks 32768 (λ h. says-if-same (marks % 8192) 0
-        (λ e. spelled (b ++ c) (rw (append-assoc, ← j) i) (flags-of (extended x (odd (bits / 16384) d) y (record { not-bit-15 = h; not-below-13 = e })))) (λ z. refused)))))
+        (λ e. spelled (b ++ c) (rw (append-assoc, ← j) i) (flags-of (extended x (odd (bits / 16384) d) y (record { not-bit-15 = omega arith; not-below-13 = e })))) (λ z. refused)))))
 
     complete : {b : List ℕ} {v : ℕ × ℕ} → FlagsOf b v → (rest : List ℕ) → readFlags (b ++ rest) ≡ got v rest
     complete (flags-of (plain {bits = bits} x e)) rest = rw (big-reads 2 .complete x rest, eq-eqb (extendedBit bits) 0 e)

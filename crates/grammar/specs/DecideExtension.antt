@@ -170,14 +170,14 @@ pub data SaysLast (S : List ℕ) (at : ℕ) (es : List Ext) : Option (ℕ × Lis
   none-is : NoneSigned S es → SaysLast S at es nothing
 
 last-further : {S : List ℕ} {at place : ℕ} {es : List Ext} {body : List ℕ} (e : Ext) → LastSigned S (at + (extensionHeader + length (e .body))) es place body → LastSigned S at (e ∷ es) place body
-last-further {S} {at} {es = es} e (last-signed before {e = d} i j x) =
+last-further {S} {at} {es = es} e (last-signed before {e = d} behind i j x) =
     let k : at + bytesOf (e ∷ before) + extensionHeader ≡ at + (extensionHeader + length (e .body)) + bytesOf before + extensionHeader = omega arith in
-    subst (λ (p : ℕ). LastSigned S at (e ∷ es) p (d .body)) k (last-signed (e ∷ before) (ap (λ (l : List Ext). e ∷ l) i) j x)
+    subst (λ (p : ℕ). LastSigned S at (e ∷ es) p (d .body)) k (last-signed (e ∷ before) behind (ap (λ (l : List Ext). e ∷ l) i) j x)
 
 last-this : {S : List ℕ} {at : ℕ} {es : List Ext} (e : Ext) → e .signature ≡ S → NoneSigned S es → LastSigned S at (e ∷ es) (at + extensionHeader) (e .body)
 last-this {S} {at} {es} e i x =
     let k : at + bytesOf [] + extensionHeader ≡ at + extensionHeader = omega arith in
-    subst (λ (p : ℕ). LastSigned S at (e ∷ es) p (e .body)) k (last-signed [] refl i x)
+    subst (λ (p : ℕ). LastSigned S at (e ∷ es) p (e .body)) k (last-signed [] es refl i x)
 
 pub last-says : (S : List ℕ) (at : ℕ) (es : List Ext) → SaysLast S at es (readLast S at es)
 unfolding readLast
@@ -198,7 +198,7 @@ none-signed (another {e = f} k x) [] e behind i j = let l : f ≡ e = cc in k (a
 none-signed (another {es = es} k x) (d ∷ before) e behind i j = let l : es ≡ before ++ (e ∷ behind) = cc in none-signed x before e behind l j
 
 pub none-not-last : {S : List ℕ} {at place : ℕ} {es : List Ext} {body : List ℕ} → NoneSigned S es → LastSigned S at es place body → ⊥
-none-not-last x (last-signed before {e = e} {behind = behind} i j y) = none-signed x before e behind i j
+none-not-last x (last-signed before {e = e} behind i j y) = none-signed x before e behind i j
 
 -- of the last one there is at most one
 one-last : {S : List ℕ} (p : List Ext) (e : Ext) (q p₂ : List Ext) (e₂ : Ext) (q₂ : List Ext) → p ++ (e ∷ q) ≡ p₂ ++ (e₂ ∷ q₂) → e .signature ≡ S → e₂ .signature ≡ S → NoneSigned S q → NoneSigned S q₂
@@ -213,6 +213,6 @@ one-last (d ∷ p) e q (d₂ ∷ p₂) e₂ q₂ i j k x y =
     ((λ n. m n ∷ f n), g)
 
 pub last-unique : {S : List ℕ} {at place place₂ : ℕ} {es : List Ext} {body body₂ : List ℕ} → LastSigned S at es place body → LastSigned S at es place₂ body₂ → (place ≡ place₂) × (body ≡ body₂)
-last-unique {at = at} (last-signed p {e = e} {behind = q} i j x) (last-signed p₂ {e = e₂} {behind = q₂} i₂ j₂ x₂) =
+last-unique {at = at} (last-signed p {e = e} q i j x) (last-signed p₂ {e = e₂} q₂ i₂ j₂ x₂) =
     let (f, g) = one-last p e q p₂ e₂ q₂ (sym i ∙ i₂) j j₂ x x₂ in
     (ap (λ (l : List Ext). at + bytesOf l + extensionHeader) f, ap (λ (a : Ext). a .body) g)

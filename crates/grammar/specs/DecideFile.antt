@@ -186,7 +186,7 @@ readFile n xs = onHeader n (readHeader xs)
 -- behind a header that is spelled: r is what is left
 module _ (n : ℕ) (xs h r : List ℕ) (version count : ℕ) (i : xs ≡ h ++ r) (x : Header h version count) (l : n ≤ length r) where
   trailer : Trailer n (drop (length r - n) r)
-  trailer = record { size = length-drop (length r - n) r ∙ omega arith }
+  trailer = record { size = omega (arith, length-drop (length r - n) r) }
 
   extensions-says : (b q : List ℕ) (ms : List Meaning) → take (length r - n) r ≡ b ++ q → Entries n version start count b ms → (f : Filled Ext) → readExtensions q ≡ f
       → Whole (File n xs) (onExtensions n version (headerLength + (length (take (length r - n) r) - length q)) ms f)

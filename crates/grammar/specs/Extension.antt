@@ -60,5 +60,5 @@ bytesOf (e ∷ es) = extensionHeader + length (e .body) + bytesOf es
 
 -- of extensions that begin at a place of the file, the last one with this signature: none behind it has it. The place of its body, and its body
 pub data LastSigned (signature : List ℕ) (at : ℕ) (es : List Ext) : ℕ → List ℕ → Type 0 where
-  last-signed : (before : List Ext) {e : Ext} {behind : List Ext} → es ≡ before ++ (e ∷ behind) → e .signature ≡ signature → NoneSigned signature behind
+  last-signed : (before : List Ext) {e : Ext} (behind : List Ext) → es ≡ before ++ (e ∷ behind) → e .signature ≡ signature → NoneSigned signature behind
       → LastSigned signature at es (at + bytesOf before + extensionHeader) (e .body)
