@@ -1,6 +1,6 @@
 -- The whole index file: header, entries, extensions and trailer, and the index that it means; after gitformat-index, "THE GIT INDEX FILE HAS THE FOLLOWING FORMAT", and 01.
 -- n is the length of an id. Assumes nothing.
-use Prim.Native.Nat.{ℕ, _+_, _≤_}
+use Prim.Native.Nat.{ℕ, _+_, _-_, _≤_}
 use mathlib.Core.Path.{_≡_}
 use mathlib.Core.Bool.{Bool, true, false}
 use mathlib.Core.List.{List, [], _∷_, _++_}
@@ -76,9 +76,21 @@ pub data File (n : ℕ) : List ℕ → Index → Type 0 where
       → Tells (Sparse ms es) sparse → CacheTree n (headerLength + length b) es tree
       → File n (h ++ (b ++ (c ++ trailer))) (record { version = version; sparse = sparse; entries = ms; tree = tree })
 
--- ---- A PREMISE of the claims: "under 32 bytes", "not "DIRC"", "version not 2, 3, 4" are none of them so
+-- ---- PREMISES of the claims, at the places of a file
 
-pub record GoodHeader (n : ℕ) (file : List ℕ) : Type 0 where
-  pub long : headerLength + n ≤ length file
-  pub signature : take 4 file ≡ DIRC
-  pub version : Supported (bigEndian (take 4 (drop 4 file)))
+-- the version and the count, where they stand
+abbrev pub versionOf : List ℕ → ℕ
+versionOf xs = bigEndian (take 4 (drop 4 xs))
+
+abbrev pub countOf : List ℕ → ℕ
+countOf xs = bigEndian (take 4 (drop 8 xs))
+
+-- the bytes between header and trailer
+abbrev pub space : ℕ → List ℕ → List ℕ
+space n xs = drop headerLength (take (length xs - n) xs)
+
+-- "under 32 bytes", "not "DIRC"" and "version not 2, 3, 4" are none of them so
+pub record GoodHeader (n : ℕ) (xs : List ℕ) : Type 0 where
+  pub long : headerLength + n ≤ length xs
+  pub signature : take 4 xs ≡ DIRC
+  pub version : Supported (versionOf xs)

@@ -12,4 +12,5 @@ pub mod DecideExtension
 pub mod DecideTree
 pub mod DecideFile
 pub mod Unique
+pub mod Space
 pub mod Examples
