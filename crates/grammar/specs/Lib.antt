@@ -6,6 +6,7 @@ pub mod Extension
 pub mod Tree
 pub mod File
 pub mod Walk
+pub mod Descent
 pub mod DecideNumber
 pub mod DecideEntry
 pub mod DecideExtension
