@@ -154,3 +154,24 @@ mutual
       let q = e ∙ ap (λ (l : List ℕ). l ++ c) i ∙ append-assoc a b c in
       let z : k + nodes t + nodesOf ts ≡ k + (nodes t + nodesOf ts) = omega arith in
       same-walk (walk-nodes ts us (walk-node t u (same-walk w refl refl (ap (λ (j : ℕ). group j came) g)) q) refl refl) z refl (ap (group left) (append-assoc came (nameOf t ∷ []) (names ts)))
+
+mutual
+  reached : {n place d j k e i left : ℕ} {body x : List ℕ} {came : List (List ℕ)} {around : List Group} → Comes n place x d j → Walked n body k x (group (suc left) came) around
+      → e ≡ length around + d → i ≡ k + j → Reaches n body e i
+  reached {n} {k = k} {e} {i} {body = body} {around = around} here w a b =
+      let a₁ : suc (length around) ≡ e = omega arith in
+      let b₁ : k ≡ i = omega arith in
+      rw (← a₁, ← b₁) (reaches w)
+  reached {e = e} {i} (below u q c) w a b = reached-among c (head w u q) (omega arith) (omega arith)
+
+  reached-among : {n place d j k e i left : ℕ} {body x : List ℕ} {came : List (List ℕ)} {around : List Group} → ComesAmong n place left x d j → Walked n body k x (group left came) around
+      → e ≡ length around + d → i ≡ k + j → Reaches n body e i
+  reached-among (in-this c) w a b = reached c w a b
+  reached-among (past {t = t} u q c f) w a b = reached-among c (walk-node t u w q) a (omega arith)
+
+reached-if-comes : {n root d k : ℕ} {body : List ℕ} → Comes n root body d k → Reaches n body d k
+reached-if-comes {d = d} {k} c = let a : d ≡ 0 + d = omega arith in let b : k ≡ 0 + k = omega arith in reached c begins a b
+
+-- THE THEOREM
+pub reached-exactly-by-a-way : (n root : ℕ) (body : List ℕ) (d k : ℕ) → Reaches n body d k ↔ Comes n root body d k
+reached-exactly-by-a-way n root body d k = (comes-if-reached root, reached-if-comes)
