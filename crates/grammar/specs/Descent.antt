@@ -91,10 +91,10 @@ standing root (finished w d) = let (p, s) = standing root w in closed s d
 
 -- ---- from there on
 
-moved : {n p q a b d k j : ℕ} {x y : List ℕ} → ComesAmong n p a x d k → p ≡ q → a ≡ b → x ≡ y → k ≡ j → ComesAmong n q b y d j
+pub moved : {n p q a b d k j : ℕ} {x y : List ℕ} → ComesAmong n p a x d k → p ≡ q → a ≡ b → x ≡ y → k ≡ j → ComesAmong n q b y d j
 moved c e f g h = rw (← e, ← f, ← g, ← h) c
 
-some-left : {n p left d k : ℕ} {x : List ℕ} → ComesAmong n p left x d k → 0 < left
+pub some-left : {n p left d k : ℕ} {x : List ℕ} → ComesAmong n p left x d k → 0 < left
 some-left (in-this c) = omega arith
 some-left (past y i c e) = omega arith
 

@@ -13,5 +13,6 @@ pub mod DecideExtension
 pub mod DecideTree
 pub mod DecideFile
 pub mod Unique
+pub mod Reach
 pub mod Space
 pub mod Examples
