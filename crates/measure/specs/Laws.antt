@@ -1,0 +1,282 @@
+-- Laws of the measures in the directions that the code's proofs ask, each with the premises that a place of the code knows. Assumes nothing.
+use mathlib.Core.Path.{_≡_, refl, sym, ap, _∙_}
+use mathlib.Core.Bool.{Bool, true, false}
+use mathlib.Core.List.{List, [], _∷_}
+use Prim.Native.Nat.{ℕ, zero, suc, _+_, _-_, _*_, _/_, _%_, _^_, _≤_, _<_}
+use native.Mathlib.Omega.{arith}
+use lib.ListN.{length, getD, drop}
+use lib.Dec.{ltb, eqb}
+use borrow.Author.Tests.{lt-ltb, le-ltb, eq-eqb, ne-eqb, ltb-true}
+use Rattle.laws.specs.Pick.{pick}
+use Rattle.slices.specs.Bytes.{nulAt}
+use Rattle.slices.specs.Laws.{nul-bounds}
+use Rattle.slices.specs.declared.Ends.{Ends}
+use Rattle.slices.specs.declared.Ends.the-variants.{With, Never}
+use Rattle.wire.specs.Places.{fileAt}
+use Rattle.wire.specs.BigEndian.{beAt}
+use Rattle.wire.specs.Groups.{groupsIn, numberAt}
+use Rattle.wire.specs.declared.Number.{Number}
+use Rattle.wire.specs.declared.Number.the-variants.{Is, Cut, Over}
+use Rattle.measure.specs.declared.Head.{Head}
+use Rattle.measure.specs.declared.Head.the-variants.{Fixed, Unfinished, Spoiled}
+use Rattle.measure.specs.declared.Kept.{Kept}
+use Rattle.measure.specs.declared.Kept.the-variants.{Bytes, TooFew}
+use Rattle.measure.specs.declared.Measured.{Measured}
+use Rattle.measure.specs.declared.Measured.the-variants.{Entry, Short, Fault}
+use Rattle.measure.specs.Entry.{extendedPasses, extendedAt, headWith, headAt, wholeOf, paddedTo, onEnds, onNumber, onKept, onHead, paddedAt, keptOf, suffixedAt, compressedAt, measureAt}
+
+-- ---- the bits after EXTENDED
+pub passes-high : (w : ℕ) → 32767 < w → false ≡ extendedPasses w
+unfolding extendedPasses
+passes-high w h = sym (rw (lt-ltb 32767 w h))
+
+pub passes-low : (w : ℕ) → w ≤ 32767 → eqb (w % 8192) 0 ≡ extendedPasses w
+unfolding extendedPasses
+passes-low w h = sym (rw (le-ltb 32767 w h))
+
+module _ (s : List ℕ) (i end kept field : ℕ) where
+  pub extended-none : end - i < 1 → Unfinished ≡ extendedAt 20 s i end kept field
+  unfolding extendedAt
+  extended-none h = sym (rw (lt-ltb (end - i) 1 h))
+
+  module _ (a : 1 ≤ end - i) where
+    module _ (h : end - i < 2) (w : ℕ) (e : w ≡ getD s i 0 * 256) (t : Bool) (p : t ≡ extendedPasses w) where
+      one-byte : extendedAt 20 s i end kept field ≡ pick t Unfinished Spoiled
+      unfolding extendedAt
+      one-byte = rw (le-ltb (end - i) 1 a, lt-ltb (end - i) 2 h, ← e, ← p)
+
+      pub extended-open : t ≡ true → Unfinished ≡ extendedAt 20 s i end kept field
+      extended-open q = sym (one-byte ∙ rw q)
+
+      pub extended-shut : t ≡ false → Spoiled ≡ extendedAt 20 s i end kept field
+      extended-shut q = sym (one-byte ∙ rw q)
+
+    module _ (h : 2 ≤ end - i) (w : ℕ) (e : w ≡ beAt 2 s i) (t : Bool) (p : t ≡ extendedPasses w) where
+      whole-word : extendedAt 20 s i end kept field ≡ pick t (Fixed (kept + w * 65536) 64 field) Spoiled
+      unfolding extendedAt
+      whole-word = rw (le-ltb (end - i) 1 a, le-ltb (end - i) 2 h, ← e, ← p)
+
+      pub extended-good : t ≡ true → Fixed (kept + w * 65536) 64 field ≡ extendedAt 20 s i end kept field
+      extended-good q = sym (whole-word ∙ rw q)
+
+      pub extended-bad : t ≡ false → Spoiled ≡ extendedAt 20 s i end kept field
+      extended-bad q = sym (whole-word ∙ rw q)
+
+-- ---- the head
+module _ (s : List ℕ) (i end : ℕ) where
+  pub head-past : length s < end → Unfinished ≡ headAt 20 s i end
+  unfolding headAt
+  head-past h = sym (rw (lt-ltb (length s) end h))
+
+  module _ (a : end ≤ length s) where
+    pub head-crossed : end < i → Unfinished ≡ headAt 20 s i end
+    unfolding headAt
+    head-crossed h = sym (rw (le-ltb (length s) end a, lt-ltb end i h))
+
+    module _ (b : i ≤ end) where
+      pub head-small : end - i < 62 → Unfinished ≡ headAt 20 s i end
+      unfolding headAt
+      head-small h = sym (rw (le-ltb (length s) end a, le-ltb end i b, lt-ltb (end - i) 62 h))
+
+      module _ (c : 62 ≤ end - i) (bits : ℕ) (e : bits ≡ beAt 2 s (i + 60)) where
+        head-bits : headAt 20 s i end ≡ headWith 20 s i end bits
+        unfolding headAt
+        head-bits = rw (le-ltb (length s) end a, le-ltb end i b, le-ltb (end - i) 62 c, e)
+
+        pub head-plain : bits / 16384 % 2 ≡ 0 → Fixed (bits / 4096 * 4096) 62 (bits % 4096) ≡ headAt 20 s i end
+        unfolding headWith
+        head-plain x = sym (head-bits ∙ rw (eq-eqb (bits / 16384 % 2) 0 x))
+
+        pub head-extended : (bits / 16384 % 2 ≡ 0 → ⊥) → (h : Head) → h ≡ extendedAt 20 s (i + 62) end (bits / 4096 * 4096) (bits % 4096) → h ≡ headAt 20 s i end
+        unfolding headWith
+        head-extended x h k = k ∙ sym (head-bits ∙ rw (ne-eqb (bits / 16384 % 2) 0 x))
+
+-- ---- padding
+pub pad-short : (i end flags size len : ℕ) → end - i < (size + len + 8) / 8 * 8 → Short ≡ paddedTo i end flags size len
+unfolding paddedTo wholeOf
+pad-short i end flags size len h = sym (rw (lt-ltb (end - i) ((size + len + 8) / 8 * 8) h))
+
+pub pad-entry : (i end flags size len : ℕ) → (size + len + 8) / 8 * 8 ≤ end - i → Entry flags 0 (fileAt (i + size)) len (fileAt (i + (size + len + 8) / 8 * 8)) ≡ paddedTo i end flags size len
+unfolding paddedTo wholeOf
+pad-entry i end flags size len h = sym (rw (le-ltb (end - i) ((size + len + 8) / 8 * 8) h))
+
+module _ (s : List ℕ) (i end flags size field : ℕ) where
+  pub padded-field : (r : Measured) → r ≡ paddedTo i end flags size field → (field ≡ 4095 → ⊥) → r ≡ paddedAt s i end flags size field
+  unfolding paddedAt
+  padded-field r e h = e ∙ sym (rw (ne-eqb field 4095 h))
+
+  module _ (n : Ends) (e : n ≡ nulAt s (i + size) end) (h : field ≡ 4095) where
+    pub padded-never : n ≡ Never → Short ≡ paddedAt s i end flags size field
+    unfolding paddedAt
+    padded-never q = sym (rw (eq-eqb field 4095 h, ← e, q))
+
+    pub padded-nul : (z : ℕ) (r : Measured) → n ≡ With z → r ≡ paddedTo i end flags size (z - (i + size)) → r ≡ paddedAt s i end flags size field
+    unfolding paddedAt
+    padded-nul z r q k = k ∙ sym (rw (eq-eqb field 4095 h, ← e, q))
+
+-- where a text that was found ends
+pub nul-after : (s : List ℕ) (p end z : ℕ) (n : Ends) → n ≡ nulAt s p end → n ≡ With z → p ≤ z
+nul-after s p end z n e q = nul-bounds s p end z (sym e ∙ q) .0
+
+pub nul-below : (s : List ℕ) (p end z : ℕ) (n : Ends) → n ≡ nulAt s p end → n ≡ With z → z < end
+nul-below s p end z n e q = nul-bounds s p end z (sym e ∙ q) .1
+
+-- ---- numbers in groups: where one ends, and how large what is cut can be
+pub record NumberFits (i f a v e : ℕ) : Type 0 where
+  pub after : i < e
+  pub within : e ≤ i + f
+  pub least : a * 128 ≤ v
+  pub small : v < 2 ^ 64
+
+number-step : (f : ℕ) (l : List ℕ) (i a c v e : ℕ) (t : Bool) (k : ℕ) → a < 2 ^ 57 → k < 128 → ltb (a * 128 + k) (2 ^ 57 - 1) ≡ t → (a * 128 + k + 1 < 2 ^ 57 → groupsIn f l (i + 1) (a * 128 + k + 1) ≡ Is v e → NumberFits (i + 1) f (a * 128 + k + 1) v e)
+    → pick t (groupsIn f l (i + 1) (a * 128 + k + 1)) Over ≡ Is v e → NumberFits i (suc f) a v e
+number-step f l i a c v e true k h m w ih q =
+    let lt : a * 128 + k < 2 ^ 57 - 1 = ltb-true (a * 128 + k) (2 ^ 57 - 1) w in
+    let r = ih (omega arith) q in
+    record { after = omega (arith, r .after); within = omega (arith, r .within); least = omega (arith, r .least); small = r .small }
+number-step f l i a c v e false k h m w ih q = let z : _≡_ {A = ℕ} 0 1 = cc in absurd (omega arith)
+
+number-group : (f : ℕ) (l : List ℕ) (i a c v e : ℕ) (t : Bool) → a < 2 ^ 57 → (a * 128 + c % 128 + 1 < 2 ^ 57 → groupsIn f l (i + 1) (a * 128 + c % 128 + 1) ≡ Is v e → NumberFits (i + 1) f (a * 128 + c % 128 + 1) v e)
+    → pick t (Is (a * 128 + c % 128) (i + 1)) (pick (ltb (a * 128 + c % 128) (2 ^ 57 - 1)) (groupsIn f l (i + 1) (a * 128 + c % 128 + 1)) Over) ≡ Is v e → NumberFits i (suc f) a v e
+number-group f l i a c v e true h ih q =
+    let ev : a * 128 + c % 128 ≡ v = cc in
+    let ee : i + 1 ≡ e = cc in
+    record { after = omega arith; within = omega arith; least = omega arith; small = omega arith }
+number-group f l i a c v e false h ih q = number-step f l i a c v e (ltb (a * 128 + c % 128) (2 ^ 57 - 1)) (c % 128) h (omega arith) refl ih q
+
+pub groups-fit : (f : ℕ) (l : List ℕ) (i a v e : ℕ) → a < 2 ^ 57 → groupsIn f l i a ≡ Is v e → NumberFits i f a v e
+unfolding groupsIn
+groups-fit zero l i a v e h q = let w : _≡_ {A = ℕ} 0 1 = cc in absurd (omega arith)
+groups-fit (suc f) [] i a v e h q = let w : _≡_ {A = ℕ} 0 1 = cc in absurd (omega arith)
+groups-fit (suc f) (c ∷ l) i a v e h q = number-group f l i a c v e (ltb c 128) h (λ k r. groups-fit f l (i + 1) (a * 128 + c % 128 + 1) v e k r) q
+
+pub number-fits : (s : List ℕ) (i end v e : ℕ) → numberAt s i end ≡ Is v e → NumberFits i (end - i) 0 v e
+unfolding numberAt
+number-fits s i end v e q = groups-fit (end - i) (drop i s) i 0 v e (omega arith) q
+
+pub record CutFits (a b : ℕ) : Type 0 where
+  pub least : a ≤ b
+  pub small : b < 2 ^ 57
+
+cut-step : (f : ℕ) (l : List ℕ) (i a b : ℕ) (t : Bool) (k : ℕ) → a < 2 ^ 57 → ltb (a * 128 + k) (2 ^ 57 - 1) ≡ t → (a * 128 + k + 1 < 2 ^ 57 → groupsIn f l (i + 1) (a * 128 + k + 1) ≡ Cut b → CutFits (a * 128 + k + 1) b)
+    → pick t (groupsIn f l (i + 1) (a * 128 + k + 1)) Over ≡ Cut b → CutFits a b
+cut-step f l i a b true k h w ih q =
+    let lt : a * 128 + k < 2 ^ 57 - 1 = ltb-true (a * 128 + k) (2 ^ 57 - 1) w in
+    let r = ih (omega arith) q in
+    record { least = omega (arith, r .least); small = r .small }
+cut-step f l i a b false k h w ih q = let z : _≡_ {A = ℕ} 0 1 = cc in absurd (omega arith)
+
+cut-group : (f : ℕ) (l : List ℕ) (i a c b : ℕ) (t : Bool) → a < 2 ^ 57 → (a * 128 + c % 128 + 1 < 2 ^ 57 → groupsIn f l (i + 1) (a * 128 + c % 128 + 1) ≡ Cut b → CutFits (a * 128 + c % 128 + 1) b)
+    → pick t (Is (a * 128 + c % 128) (i + 1)) (pick (ltb (a * 128 + c % 128) (2 ^ 57 - 1)) (groupsIn f l (i + 1) (a * 128 + c % 128 + 1)) Over) ≡ Cut b → CutFits a b
+cut-group f l i a c b true h ih q = let z : _≡_ {A = ℕ} 0 1 = cc in absurd (omega arith)
+cut-group f l i a c b false h ih q = cut-step f l i a b (ltb (a * 128 + c % 128) (2 ^ 57 - 1)) (c % 128) h refl ih q
+
+pub groups-cut-fit : (f : ℕ) (l : List ℕ) (i a b : ℕ) → a < 2 ^ 57 → groupsIn f l i a ≡ Cut b → CutFits a b
+unfolding groupsIn
+groups-cut-fit zero l i a b h q = let w : a ≡ b = cc in record { least = omega arith; small = omega arith }
+groups-cut-fit (suc f) [] i a b h q = let w : a ≡ b = cc in record { least = omega arith; small = omega arith }
+groups-cut-fit (suc f) (c ∷ l) i a b h q = cut-group f l i a c b (ltb c 128) h (λ k r. groups-cut-fit f l (i + 1) (a * 128 + c % 128 + 1) b k r) q
+
+pub cut-small : (s : List ℕ) (i end b : ℕ) (n : Number) → n ≡ numberAt s i end → n ≡ Cut b → b * 128 < 2 ^ 64
+unfolding numberAt
+cut-small s i end b n e q = let r = groups-cut-fit (end - i) (drop i s) i 0 b (omega arith) (sym e ∙ q) in omega (arith, r .small)
+
+-- ---- the strip
+pub kept-first : (first : Bool) (prev strip : ℕ) → first ≡ true → Bytes 0 ≡ keptOf first prev strip
+unfolding keptOf
+kept-first first prev strip g = sym (rw g)
+
+pub kept-few : (first : Bool) (prev strip : ℕ) → first ≡ false → prev < strip → TooFew ≡ keptOf first prev strip
+unfolding keptOf
+kept-few first prev strip g h = sym (rw (g, lt-ltb prev strip h))
+
+pub kept-some : (first : Bool) (prev strip : ℕ) → first ≡ false → strip ≤ prev → Bytes (prev - strip) ≡ keptOf first prev strip
+unfolding keptOf
+kept-some first prev strip g h = sym (rw (g, le-ltb prev strip h))
+
+module _ (s : List ℕ) (from end flags keep : ℕ) (t : Ends) (e : t ≡ nulAt s from end) where
+  pub suffix-never : t ≡ Never → Short ≡ suffixedAt s from end flags keep
+  unfolding suffixedAt
+  suffix-never q = sym (rw (← e, q))
+
+  pub suffix-found : (z : ℕ) → t ≡ With z → Entry flags keep (fileAt from) (z - from) (fileAt (z + 1)) ≡ suffixedAt s from end flags keep
+  unfolding suffixedAt
+  suffix-found z q = sym (rw (← e, q))
+
+-- ---- version 4
+module _ (s : List ℕ) (from end flags : ℕ) (first : Bool) (prev : ℕ) (n : Number) (e : n ≡ numberAt s from end) where
+  pub strip-over : n ≡ Over → Fault ≡ compressedAt s from end flags first prev
+  unfolding compressedAt
+  strip-over q = sym (rw (← e, q))
+
+  module _ (a : ℕ) (q : n ≡ Cut a) (k : Kept) (f : k ≡ keptOf first prev (a * 128)) where
+    pub cut-few : k ≡ TooFew → Fault ≡ compressedAt s from end flags first prev
+    unfolding compressedAt
+    cut-few g = sym (rw (← e, q, ← f, g))
+
+    pub cut-open : (b : ℕ) → k ≡ Bytes b → Short ≡ compressedAt s from end flags first prev
+    unfolding compressedAt
+    cut-open b g = sym (rw (← e, q, ← f, g))
+
+  module _ (v x : ℕ) (q : n ≡ Is v x) (k : Kept) (f : k ≡ keptOf first prev v) where
+    pub strip-few : k ≡ TooFew → Fault ≡ compressedAt s from end flags first prev
+    unfolding compressedAt
+    strip-few g = sym (rw (← e, q, ← f, g))
+
+    pub strip-kept : (keep : ℕ) (r : Measured) → k ≡ Bytes keep → r ≡ suffixedAt s x end flags keep → r ≡ compressedAt s from end flags first prev
+    unfolding compressedAt
+    strip-kept keep r g h = h ∙ sym (rw (← e, q, ← f, g))
+
+-- ---- the whole
+module _ (s : List ℕ) (i end version : ℕ) (first : Bool) (prev : ℕ) (h : Head) (e : h ≡ headAt 20 s i end) where
+  pub measure-unfinished : h ≡ Unfinished → Short ≡ measureAt 20 s i end version first prev
+  unfolding measureAt
+  measure-unfinished q = sym (rw (← e, q))
+
+  pub measure-spoiled : h ≡ Spoiled → Fault ≡ measureAt 20 s i end version first prev
+  unfolding measureAt
+  measure-spoiled q = sym (rw (← e, q))
+
+  module _ (flags size field : ℕ) (q : h ≡ Fixed flags size field) (r : Measured) where
+    pub measure-four : version ≡ 4 → r ≡ compressedAt s (i + size) end flags first prev → r ≡ measureAt 20 s i end version first prev
+    unfolding measureAt
+    measure-four v k = k ∙ sym (rw (← e, q, eq-eqb version 4 v))
+
+    pub measure-other : (version ≡ 4 → ⊥) → r ≡ paddedAt s i end flags size field → r ≡ measureAt 20 s i end version first prev
+    unfolding measureAt
+    measure-other v k = k ∙ sym (rw (← e, q, ne-eqb version 4 v))
+
+pub ruleset laws = (
+  passes-high,
+  passes-low,
+  extended-none,
+  extended-open,
+  extended-shut,
+  extended-good,
+  extended-bad,
+  head-past,
+  head-crossed,
+  head-small,
+  head-plain,
+  head-extended,
+  pad-short,
+  pad-entry,
+  padded-field,
+  padded-never,
+  padded-nul,
+  nul-after,
+  kept-first,
+  kept-few,
+  kept-some,
+  suffix-never,
+  suffix-found,
+  strip-over,
+  cut-few,
+  cut-open,
+  strip-few,
+  strip-kept,
+  measure-unfinished,
+  measure-spoiled,
+  measure-four,
+  measure-other,
+)
