@@ -1,0 +1,84 @@
+-- A run of entries into two stores, one entry after the other, over the id's length (01, How an entry is spelled; When the desk says no, 5 and 6). Each entry is
+-- measured first; then record room and path room are tested; only then is it stored. Assumes nothing.
+use Prim.Native.Nat.{ℕ, zero, suc, _+_, _-_, _*_, _≤_}
+use mathlib.Core.Bool.{Bool, true, false}
+use mathlib.Core.List.{List, [], _∷_, _++_}
+use lib.ListN.{length, take, drop}
+use lib.Dec.{ltb, leb}
+use lib.Seq.{paste}
+use Rattle.laws.specs.Pick.{pick}
+use Rattle.wire.specs.Places.{pathAt}
+use Rattle.wire.specs.declared.FileAt.{FileAt}
+use Rattle.wire.specs.declared.PathAt.{PathAt}
+use Rattle.refusal.specs.Refusal.{not-spelled, no-entry-room}
+use Rattle.entry.specs.Mode.{dirAt}
+use Rattle.entry.specs.Record.{recordSize, recordsIn, recordOf}
+use Rattle.measure.specs.Entry.{measureAt}
+use Rattle.measure.specs.declared.Measured.{Measured}
+use Rattle.measure.specs.declared.Measured.the-variants.{Entry, Short, Fault}
+use Rattle.decode.specs.declared.entries.Before.{Before}
+use Rattle.decode.specs.declared.entries.Answer.{Answer}
+use Rattle.decode.specs.declared.entries.Answer.the-variants.{Done, NotSpelled, NoRoom}
+
+-- 01's number for an answer, 0 where there is no refusal, and the value that a refusal carries
+abbrev pub refusal : Answer → ℕ
+refusal (Done next used sparse) = 0
+refusal (NotSpelled k) = not-spelled
+refusal (NoRoom k) = no-entry-room
+
+abbrev pub carried : Answer → List ℕ
+carried (Done next used sparse) = []
+carried (NotSpelled k) = k ∷ []
+carried (NoRoom k) = k ∷ []
+
+-- a path: what is kept of the one before, which ends at `used`, and a part of the file
+unfoldable pub pathOf : List ℕ → List ℕ → ℕ → ℕ → ℕ → ℕ → ℕ → List ℕ
+pathOf s ps keep suffix len prev used = take keep (drop (used - prev) ps) ++ take len (drop suffix s)
+
+-- sparse so far, or by the entry at a place
+unfoldable pub marked : List ℕ → ℕ → Bool → Bool
+marked s at sparse = pick (dirAt s at) true sparse
+
+-- where an entry can be stored
+pub record Room (s rs ps : List ℕ) (at keep suffix len prev used i : ℕ) : Type 0 where
+  pub file : at + 62 ≤ length s
+  pub text : suffix + len ≤ length s
+  pub keeps : keep ≤ prev
+  pub before : prev ≤ used
+  pub paths : used + (keep + len) ≤ length ps
+  pub slot : i * 96 + 96 ≤ length rs
+
+-- what reading comes to: the answer, and what the two stores hold
+pub record Outcome : Type 0 where
+  pub answer : Answer
+  pub records : List ℕ
+  pub paths : List ℕ
+
+abbrev pub outcome : Answer → List ℕ → List ℕ → Outcome
+outcome a rs ps = record { answer = a; records = rs; paths = ps }
+
+abbrev pub onMeasured : Measured → Outcome → (ℕ → ℕ → FileAt → ℕ → FileAt → Outcome) → Outcome
+onMeasured (Entry flags keep suffix len next) bad good = good flags keep suffix len next
+onMeasured Short bad good = bad
+onMeasured Fault bad good = bad
+
+-- n entries from `at` on, the first of which is number i. So far `used` bytes of the paths are in use; `first` says that no path comes before, and else the last
+-- `prev` of these bytes are the path before
+unfoldable pub run : ℕ → List ℕ → FileAt → ℕ → ℕ → ℕ → FileAt → PathAt → Bool → ℕ → Bool → List ℕ → List ℕ → Outcome
+run id s end version zero i at used first prev sparse rs ps = outcome (Done at used sparse) rs ps
+run id s end version (suc n) i at used first prev sparse rs ps =
+    onMeasured (measureAt id s (at .0) (end .0) version first prev) (outcome (NotSpelled i) rs ps)
+    (λ flags keep suffix len next.
+    pick (leb (recordsIn rs) i) (outcome (NoRoom i) rs ps)
+    (pick (ltb (length ps - used .0) (keep + len)) (outcome (NoRoom i) rs ps)
+    (run id s end version n (i + 1) next (pathAt (used .0 + (keep + len))) false (keep + len) (marked s (at .0) sparse)
+    (paste rs (i * recordSize) (recordOf id s (at .0) flags (used .0) (used .0 + (keep + len))) recordSize)
+    (paste ps (used .0) (pathOf s ps keep (suffix .0) len prev (used .0)) (keep + len)))))
+
+unfoldable pub least : ℕ → ℕ → ℕ
+least a b = pick (ltb b a) b a
+
+-- a run whose caller says anything: a place past the path store counts as its end, and a path before that is longer than what is in use counts as all of that
+unfoldable pub readEntries : ℕ → List ℕ → FileAt → ℕ → ℕ → ℕ → FileAt → Before → List ℕ → List ℕ → Outcome
+readEntries id s end version n i at before rs ps =
+    run id s end version n i at (pathAt (least (before .used .0) (length ps))) (before .first) (least (before .length) (least (before .used .0) (length ps))) false rs ps

@@ -1,0 +1,243 @@
+// How many entries a file has room for, and the entries of an index read into two lent stores of bytes: 96 for each record, and the paths one behind the other.
+// Each entry is measured before anything is written, so a refusal leaves the entries before it and nothing else.
+ghost use mathlib.Core.Bool.{false};
+ghost use mathlib.Core.Path.{_≡_};
+ghost use Prim.Native.Nat.{_+_, _-_, _*_, _≤_};
+ghost use lib.ListN.{length};
+ghost use lib.Seq.{paste};
+ghost use Rattle.wire.specs.Places.{pathAt};
+ghost use Rattle.entry.specs.Record.{recordOf};
+ghost use Rattle.measure.specs.Entry.{idLength};
+ghost use Rattle.decode.specs.Bounds.{blockSize, minEntrySize, maxEntries};
+ghost use Rattle.decode.specs.Entries.{Room, pathOf, marked, least, outcome, run, readEntries};
+use measure::Measured;
+use wire::FileAt;
+use wire::PathAt;
+
+// Where the extensions begin, if that is told.
+pub enum Extensions {
+    From(usize),
+    NotTold,
+}
+
+// Subtraction that stops at 0.
+fn less(a: usize, b: usize) -> usize
+    ensures { λ r. ⌜ r ≡ a - b ⌝ }
+{
+    if a < b {
+        return 0;
+    }
+    a - b
+}
+
+// The bytes between the header and the extensions, or the trailer where these are not told.
+fn entries_block_size_in_bytes(size: usize, extensions: Extensions, id: usize) -> usize
+    ensures { λ r. ⌜ r ≡ blockSize size extensions id ⌝ }
+{
+    match extensions {
+        Extensions::From(offset) => less(offset, crate::header::SIZE),
+        Extensions::NotTold => less(less(size, id), crate::header::SIZE),
+    }
+}
+
+// The least that an entry takes: the fixed part to a multiple of 8, or in version 4 with a strip of one byte and a NUL.
+fn min_entry_size_in_bytes(version: u32, id: usize) -> usize
+    requires { ⌜ id ≤ 64 ⌝ }
+    ensures { λ r. ⌜ r ≡ minEntrySize version id ⌝ }
+{
+    let fixed = 42 + id;
+    match version {
+        4 => fixed + 2,
+        _ => (fixed + 7) / 8 * 8,
+    }
+}
+
+// How many entries the file has room for at most. It refuses nothing.
+pub fn max_entries_possible(size: usize, extensions: Extensions, version: u32) -> usize
+    ensures { λ r. ⌜ r ≡ maxEntries size extensions version idLength ⌝ }
+{
+    let block = entries_block_size_in_bytes(size, extensions, entry::ID_SIZE);
+    let least = min_entry_size_in_bytes(version, entry::ID_SIZE);
+    block / least
+}
+
+// What stands before a run: how much of the path store is in use, and the path before, which is its last `length` bytes; `first` says that there is none.
+pub struct Before {
+    pub used: PathAt,
+    pub first: bool,
+    pub length: usize,
+}
+
+// What reading comes to.
+pub enum Answer {
+    Done {
+        next: FileAt,
+        used: PathAt,
+        sparse: bool,
+    },
+    NotSpelled(usize),
+    NoRoom(usize),
+}
+
+// Stores the entry at `at`: its record, and its path behind the others.
+fn store(
+    file: &[u8],
+    at: usize,
+    flags: u32,
+    keep: usize,
+    suffix: usize,
+    len: usize,
+    prev: usize,
+    used: usize,
+    records: &mut [u8],
+    paths: &mut [u8],
+    i: usize,
+)
+    requires { ⌜ Room (now file) (now records) (now paths) at keep suffix len prev used i ⌝ }
+    ensures { λ _. ⌜ now (records .exit) ≡ paste (now (records .entry)) (i * 96) (recordOf 20 (now (file .entry)) at flags used (used + (keep + len))) 96 ⌝ }
+    ensures { λ _. ⌜ now (paths .exit) ≡ paste (now (paths .entry)) used (pathOf (now (file .entry)) (now (paths .entry)) keep suffix len prev used) (keep + len) ⌝ }
+{
+    let from = used - prev;
+    let to = used + keep;
+    let size = keep + len;
+    let stop = used + size;
+    slices::copy_within(paths, from, keep, used);
+    slices::copy_bytes(file, suffix, len, paths, to);
+    entry::put_record(file, at, flags, used, stop, records, i);
+}
+
+// Whether the index is sparse, so far or by the entry at `at`.
+fn mark(file: &[u8], at: usize, sparse: bool) -> bool
+    ensures { λ r. ⌜ r ≡ marked (now (file .entry)) at sparse ⌝ }
+{
+    if entry::mode::is_dir(file, at) {
+        return true;
+    }
+    sparse
+}
+
+// Reads count entries from `from` on, the first of which is number `index`; the path before has `known` bytes and ends at `start`.
+fn run_entries(
+    file: &[u8],
+    from: FileAt,
+    end: FileAt,
+    version: u32,
+    count: usize,
+    index: usize,
+    start: PathAt,
+    begins: bool,
+    known: usize,
+    records: &mut [u8],
+    paths: &mut [u8],
+) -> Answer
+    requires { ⌜ (start .0 ≤ length (now paths)) × (known ≤ start .0) ⌝ }
+    ensures { λ r. ⌜ outcome r (now (records .exit)) (now (paths .exit)) ≡ run idLength (now (file .entry)) end version count index from start begins known false (now (records .entry)) (now (paths .entry)) ⌝ }
+{
+    let slots = records.len() / entry::RECORD_SIZE;
+    let mut at = from;
+    let mut used = start;
+    let mut first = begins;
+    let mut prev = known;
+    let mut sparse = false;
+    let mut i = index;
+    let mut left = count;
+    while 0 < left {
+        let m = measure::measure(file, at, end, version, first, prev);
+        match m {
+            Measured::Short => {
+                return Answer::NotSpelled(i);
+            }
+            Measured::Fault => {
+                return Answer::NotSpelled(i);
+            }
+            Measured::Entry {
+                flags,
+                keep,
+                suffix,
+                len,
+                next,
+            } => {
+                if slots <= i {
+                    return Answer::NoRoom(i);
+                }
+                let size = keep + len;
+                let have = used.0;
+                if paths.len() - have < size {
+                    return Answer::NoRoom(i);
+                }
+                let here = at.0;
+                let text = suffix.0;
+                store(
+                    file,
+                    here,
+                    flags,
+                    keep,
+                    text,
+                    len,
+                    prev,
+                    have,
+                    records,
+                    paths,
+                    i,
+                );
+                sparse = mark(file, here, sparse);
+                let total = have + size;
+                used = PathAt(total);
+                first = false;
+                prev = size;
+                at = next;
+                i += 1;
+                left -= 1;
+            }
+        }
+    }
+    Answer::Done {
+        next: at,
+        used,
+        sparse,
+    }
+}
+
+fn least_of(a: usize, b: usize) -> usize
+    ensures { λ r. ⌜ r ≡ least a b ⌝ }
+{
+    if b < a {
+        return b;
+    }
+    a
+}
+
+// Reads count entries from `from` on, which have to end at or before `end`; the first of them is number `index`. A place past the path store counts as its end,
+// and a path before that is longer than what is in use counts as all of that.
+pub fn read_entries(
+    file: &[u8],
+    from: FileAt,
+    end: FileAt,
+    version: u32,
+    count: usize,
+    index: usize,
+    before: Before,
+    records: &mut [u8],
+    paths: &mut [u8],
+) -> Answer
+    ensures { λ r. ⌜ outcome r (now (records .exit)) (now (paths .exit)) ≡ readEntries idLength (now (file .entry)) end version count index from before (now (records .entry)) (now (paths .entry)) ⌝ }
+{
+    let place = before.used;
+    let first = before.first;
+    let length = before.length;
+    let used = least_of(place.0, paths.len());
+    let prev = least_of(length, used);
+    run_entries(
+        file,
+        from,
+        end,
+        version,
+        count,
+        index,
+        PathAt(used),
+        first,
+        prev,
+        records,
+        paths,
+    )
+}
