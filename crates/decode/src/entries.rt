@@ -144,12 +144,8 @@ fn run_entries(
     while 0 < left {
         let m = measure::measure(file, at, end, version, first, prev);
         match m {
-            Measured::Short => {
-                return Answer::NotSpelled(i);
-            }
-            Measured::Fault => {
-                return Answer::NotSpelled(i);
-            }
+            Measured::Short => return Answer::NotSpelled(i),
+            Measured::Fault => return Answer::NotSpelled(i),
             Measured::Entry {
                 flags,
                 keep,

@@ -1,10 +1,10 @@
 // The record store: 96 bytes a record. The ten fields stand as in the file (0 to 39, the mode masked), the id in 32 bytes (40), the flags (72), and where the path
 // starts (76) and ends (84) in the path store; four bytes are zero. All that is known of this layout is known here.
 ghost use mathlib.Core.Path.{_≡_};
-ghost use Prim.Native.Nat.{_+_, _≤_};
+ghost use Prim.Native.Nat.{_+_, _-_, _≤_};
 ghost use lib.ListN.{length};
 ghost use lib.Seq.{paste};
-ghost use Rattle.entry.specs.Layout.{recordSize, idSize};
+ghost use Rattle.entry.specs.Layout.{recordSize, idSize, idPlace};
 ghost use Rattle.entry.specs.Record.{recordsIn, frontOf, restOf, putRecord, fieldAt, flagsAt, modeAt, stageAt, startAt, endAt, idAt, liesInside, pathAt};
 use mode::MODE_AT;
 use mode::MODE_END;
@@ -33,9 +33,9 @@ const REST_AT: usize = 92;
 
 // The fields and the id.
 fn put_front(file: &[u8], at: usize, slot: &mut [u8])
-    requires { ⌜ at + 60 ≤ length (now file) ⌝ }
-    requires { ⌜ 60 ≤ length (now slot) ⌝ }
-    ensures { λ _. ⌜ now (slot .exit) ≡ paste (now (slot .entry)) 0 (frontOf idSize (now (file .entry)) at) 60 ⌝ }
+    requires { ⌜ at + (idPlace + idSize) ≤ length (now file) ⌝ }
+    requires { ⌜ idPlace + idSize ≤ length (now slot) ⌝ }
+    ensures { λ _. ⌜ now (slot .exit) ≡ paste (now (slot .entry)) 0 (frontOf idSize (now (file .entry)) at) (idPlace + idSize) ⌝ }
 {
     let m = wire::be32(file, at + MODE_AT);
     let k = mode::keep_mode(m);
@@ -47,7 +47,7 @@ fn put_front(file: &[u8], at: usize, slot: &mut [u8])
 // What follows the id.
 fn put_rest(slot: &mut [u8], flags: u32, start: usize, end: usize)
     requires { ⌜ recordSize ≤ length (now slot) ⌝ }
-    ensures { λ _. ⌜ now (slot .exit) ≡ paste (now (slot .entry)) 60 (restOf idSize flags start end) 36 ⌝ }
+    ensures { λ _. ⌜ now (slot .exit) ≡ paste (now (slot .entry)) (idPlace + idSize) (restOf idSize flags start end) (recordSize - (idPlace + idSize)) ⌝ }
 {
     slices::clear(slot, ZEROS_AT, FLAGS_AT - ZEROS_AT);
     wire::put32(slot, FLAGS_AT, flags);
