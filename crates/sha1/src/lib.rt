@@ -3,15 +3,15 @@
 ghost use mathlib.Core.Path.{_≡_};
 ghost use mathlib.Core.List.{[], _++_};
 ghost use Prim.Native.Nat.{_+_, _-_, _*_, _%_, _^_, _≤_, _<_};
+ghost use lib.Bits.{bitXor};
 ghost use lib.ListN.{length, take, drop};
 ghost use Rattle.sha1.specs.Sha1.{rotl, ch, parity, maj, extend, schedule, five, listed, turn, rounds, added, compress, hashBlocks, hashAll, digestOf, sha1};
-ghost use lib.Bits.{bitXor};
 ghost use Rattle.sha1.specs.Pieces.{filled, digestAfter, fed, finished};
 
 // The bytes of a block.
 const BLOCK: usize = 64;
 
-// A count of bytes below this has a count of bits in 64 bits.
+// 2^61: the bits of a message are counted modulo 2^64, its bytes modulo this.
 const BIT_COUNTS: u64 = 0x2000_0000_0000_0000;
 
 // The hash value of no blocks.
@@ -40,19 +40,21 @@ fn rotl(x: u32, n: u32) -> u32
     (x << n) | (x >> (32 - n))
 }
 
-// The functions of the second, third and fourth variable.
+// Where b has a one c's bit, else d's. As the two below it takes the five variables a to e, and sees b, c and d.
 fn ch(v: [u32; 5]) -> u32
     ensures { λ r. ⌜ r ≡ ch (five v .b) (five v .c) (five v .d) ⌝ }
 {
     (v[1] & v[2]) ^ (!v[1] & v[3])
 }
 
+// The sum of the bits of b, c and d, modulo 2.
 fn parity(v: [u32; 5]) -> u32
     ensures { λ r. ⌜ r ≡ parity (five v .b) (five v .c) (five v .d) ⌝ }
 {
     v[1] ^ v[2] ^ v[3]
 }
 
+// The bit that two of b, c and d have.
 fn maj(v: [u32; 5]) -> u32
     ensures { λ r. ⌜ r ≡ maj (five v .b) (five v .c) (five v .d) ⌝ }
 {
@@ -292,7 +294,7 @@ impl Digest {
         }
     }
 
-    // The digest's twenty bytes: the padding is one more piece.
+    // The digest's twenty bytes. The padding is one more piece: a one bit, zeros up to eight bytes before a block's end, and the number of bits.
     pub fn finish(self) -> [u8; 20]
         ensures { λ r. ⌜ r ≡ finished self ⌝ }
     {
