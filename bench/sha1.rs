@@ -1,5 +1,6 @@
 // Measures the proved digest, as the static library exports it, against plain scalar Rust: SHA-1 with all eighty words in an array, with the rounds in one
-// loop and in four. All three are checked against each other first, at every length below 400, and run alternately. `bench/sha1` builds and runs this.
+// loop and in four. All three are checked against each other first, at every length below 400, and run alternately, each in short runs of which the best
+// counts, so that other work of the machine disturbs little. `bench/sha1` builds and runs this.
 use std::time::Instant;
 
 #[link(name = "sparrowpivot", kind = "static")]
@@ -91,7 +92,7 @@ fn proved(s: &[u8]) -> [u8; 20] {
 
 fn main() {
     let mut x = 12345u64;
-    let data: Vec<u8> = (0..16 << 20)
+    let data: Vec<u8> = (0..1 << 20)
         .map(|_| {
             x = x.wrapping_mul(6364136223846793005).wrapping_add(1442695040888963407);
             (x >> 56) as u8
@@ -104,20 +105,20 @@ fn main() {
     let all: [(&str, fn(&[u8]) -> [u8; 20]); 3] =
         [("proved", proved), ("rust, one loop", |s| rust(s, one_loop)), ("rust, four loops", |s| rust(s, four_loops))];
     let mut best = [[f64::MAX; 2]; 3];
-    for _ in 0..9 {
+    for _ in 0..200 {
         for (i, (_, f)) in all.iter().enumerate() {
             let t = Instant::now();
             std::hint::black_box(f(&data));
             best[i][0] = best[i][0].min(t.elapsed().as_secs_f64());
             let t = Instant::now();
-            for k in 0..100000 {
+            for k in 0..10000 {
                 std::hint::black_box(f(&data[k..k + 40]));
             }
             best[i][1] = best[i][1].min(t.elapsed().as_secs_f64());
         }
     }
     for (i, (name, _)) in all.iter().enumerate() {
-        println!("{name}: {:.0} MB/s; a message of 40 bytes: {:.0} ns", data.len() as f64 / best[i][0] / 1e6, best[i][1] * 1e4);
+        println!("{name}: {:.0} MB/s; a message of 40 bytes: {:.0} ns", data.len() as f64 / best[i][0] / 1e6, best[i][1] * 1e5);
     }
     for i in 1..3 {
         println!("speed of the proved digest to {}: {:.2}; at 40 bytes: {:.2}", all[i].0, best[i][0] / best[0][0], best[i][1] / best[0][1]);
