@@ -237,6 +237,13 @@ tree-says n place body = go (readTree n place body) refl
     go (some t) e = is-tree (sound (node-says n (length body) place body) e)
     go nothing e = no-tree (λ t x. let f = tree-complete x in let z : _≡_ {A = ℕ} 0 1 = cc in omega arith)
 
+pub tree-decided : (n place : ℕ) (body : List ℕ) (t : Tree) → (readTree n place body ≡ some t) ↔ Node n place body t
+tree-decided n place body t = (of (tree-says n place body), tree-complete)
+  where
+    of : {o : Option Tree} → SaysTree n place body o → o ≡ some t → Node n place body t
+    of (is-tree {t = u} x) e = let f : u ≡ t = cc in subst (Node n place body) f x
+    of (no-tree k) e = let z : _≡_ {A = ℕ} 0 1 = cc in absurd (omega arith)
+
 -- one tree at most
 pub tree-unique : {n place : ℕ} {body : List ℕ} {t u : Tree} → Node n place body t → Node n place body u → t ≡ u
 tree-unique {n} {place} {body} {t} {u} x y =

@@ -16,3 +16,4 @@ pub mod Unique
 pub mod Reach
 pub mod Space
 pub mod Examples
+pub mod WalkExamples

@@ -17,7 +17,9 @@ use Rattle.grammar.specs.DecideNumber.{variable-reads, Whole, means, not
 use Rattle.grammar.specs.DecideEntry.{entry-reads, entries-reads}
 use Rattle.grammar.specs.DecideExtension.{framed-reads, extension-reads, extension-some}
 use Rattle.grammar.specs.DecideTree.{head-reads, node-reads}
+pub use Rattle.grammar.specs.DecideTree.{tree-unique}
 use Rattle.grammar.specs.DecideFile.{readFile, file-says, file-complete}
+pub use Rattle.grammar.specs.DecideFile.{cache-tree-unique}
 
 -- v and w are spelled by the same first bytes of xs, and mean the same
 abbrev pub SameMeaning : {A : Type 0} (R : List ℕ → A → Type 0) → Type 0
