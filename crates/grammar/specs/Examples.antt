@@ -1,6 +1,6 @@
 -- Files that are spelled, with what they mean, and files that nearly are and are not; a file of each version has a TREE. Each holds by computing what decides. Assumes nothing.
 use Prim.Native.Nat.{ℕ, _+_}
-use mathlib.Core.Path.{_≡_, refl}
+use mathlib.Core.Path.{refl}
 use mathlib.Core.Bool.{true, false}
 use mathlib.Core.List.{List, [], _∷_, _++_}
 use mathlib.Core.Option.{Option, some, none}

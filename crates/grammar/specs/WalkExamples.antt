@@ -1,12 +1,13 @@
 -- How far the walk comes in some bodies: in a tree that is spelled, and past a repeated name in a group that is not finished. Assumes nothing.
-use Prim.Native.Nat.{ℕ, _≤_}
-use mathlib.Core.Path.{_≡_, refl}
+use Prim.Native.Nat.{ℕ}
+use mathlib.Core.Path.{refl}
 use mathlib.Core.List.{List, [], _∷_, _++_}
 use native.Mathlib.Omega.{arith}
+use mathlib.Core.Option.{Option}
 use lib.ListN.{replicate}
 use Rattle.laws.specs.Order.{compared}
 use Rattle.grammar.specs.Number.{covers, invalid}
-use Rattle.grammar.specs.Tree.{Tree, tree, childless, Head, NodeHead, Node}
+use Rattle.grammar.specs.Tree.{Tree, tree, childless, NodeHead, Node}
 use Rattle.grammar.specs.Walk.{Reaches}
 use Rattle.grammar.specs.Descent.{here, below, in-this, past, reached-exactly-by-a-way}
 use Rattle.grammar.specs.Reach.{reaches-each-depth, depth-within, nodes-within}
@@ -16,14 +17,14 @@ use Rattle.grammar.specs.DecideTree.{readId, readHead, head-reads, other
 use Rattle.grammar.specs.Examples.{twoNodes, twoNodesAt}
 
 -- all that decides a tree, open
-unfoldable open-tree : ℕ → List ℕ → ℕ
+unfoldable decidedTree : ℕ → List ℕ → Option Tree
 unfolding compared readBytes readUntil moreDigits readDigits readUnsigned readSigned sameList readId readHead otherNames distinct readNodes readNode readTree
-open-tree n body = 0
+decidedTree = readTree 20
 
 -- ---- a root and a node in it
 
 two-nodes : Node 20 84 twoNodes (twoNodesAt 84)
-unfolding open-tree
+unfolding decidedTree
 two-nodes = tree-decided 20 84 twoNodes (twoNodesAt 84) .0 refl
 
 -- a second level is reached, and no third
@@ -46,11 +47,11 @@ abbrev nodeA : List ℕ
 nodeA = 97 ∷ 0 ∷ 45 ∷ 49 ∷ 32 ∷ 48 ∷ 10 ∷ []
 
 root-head : NodeHead 20 rootOfThree (record { name = []; count = covers 1; subtrees = 3; id = replicate 20 5 })
-unfolding open-tree
+unfolding decidedTree
 root-head = decided (head-reads 20) _ _ refl
 
 node-a : (place : ℕ) → Node 20 place nodeA (tree place (97 ∷ []) invalid [] childless)
-unfolding open-tree
+unfolding decidedTree
 node-a place = tree-decided 20 place nodeA _ .0 refl
 
 -- the group is not finished, so a third should begin, though no byte is left for it
