@@ -2,7 +2,7 @@
 -- holds of one meaning at most. Assumes nothing.
 use Prim.Native.Nat.{ℕ, zero, suc, _+_, _-_, _*_, _/_, _%_, _≤_, _<_}
 use mathlib.Core.Path.{_≡_, refl, sym, ap, _∙_, subst}
-use mathlib.Core.Bool.{Bool, true, false}
+use mathlib.Core.Bool.{Bool}
 use mathlib.Core.List.{List, [], _∷_, _++_, append-assoc}
 use native.Mathlib.Omega.{arith}
 use lib.Dec.{leb, ltb, eqb}
@@ -13,7 +13,7 @@ use Rattle.laws.specs.Tests.{Less, less, not-less, less?, Same, same, differs, 
 use Rattle.laws.specs.Read.{Got, got, none, Says, spelled, refused, Reads, next, says-next, says-if-at-most, says-if-less}
 use Rattle.laws.specs.Times.{readTimes, times-reads, asGot}
 use Rattle.grammar.specs.Number.{VariableWidth}
-use Rattle.grammar.specs.Entry.{Stat, Meaning, meaning, Words, no-words, word, keptMode, Fields, fields, extendedBit, lengthField, keptBits, OnlyMarks, Flags, plain, extended, Padding, NoNul, Before, start, path, fullField, Name, counted, ended, first, later, Entry, entry, behind, Entries}
+use Rattle.grammar.specs.Entry.{Stat, Meaning, meaning, Words, no-words, word, keptMode, Fields, fields, extendedBit, lengthField, keptBits, Flags, plain, extended, Padding, NoNul, Before, start, path, fullField, Name, counted, ended, first, later, Entry, entry, behind, Entries}
 use Rattle.grammar.specs.Entry.NoNul.{empty, byte}
 use Rattle.grammar.specs.DecideNumber.{Bytes, bytes, readBytes, bytes-reads, readBig, big-reads, readVariable, variable-reads, Without, Until, until, readUntil, until-here, until-reads}
 use Rattle.grammar.specs.DecideNumber.Without.{empty as empty₁, byte as byte₁}

@@ -1,6 +1,6 @@
 -- What decides the relations of Extension on lists. It reads no file and is no reader of the project: it only settles, for given bytes, whether a relation holds, and so
 -- that it holds of one meaning at most. Assumes nothing.
-use Prim.Native.Nat.{ℕ, _+_, _≤_, _<_}
+use Prim.Native.Nat.{ℕ, _+_, _<_}
 use mathlib.Core.Path.{_≡_, refl, sym, ap, _∙_, subst}
 use mathlib.Core.Bool.{Bool, true, false}
 use mathlib.Core.List.{List, [], _∷_, _++_, append-assoc}
@@ -12,9 +12,9 @@ use lib.ListN.{length, getD, length-append}
 use Rattle.laws.specs.Pick.{pick}
 use Rattle.laws.specs.Tests.{AtMost, at-most, above, at-most?}
 use Rattle.laws.specs.Read.{Got, got, none, Says, spelled, refused, Reads, next, says-next}
-use Rattle.laws.specs.Fill.{Filled, filled, broken, Breaks, readFill, fill-accepts, fill-broken, fill-unique}
+use Rattle.laws.specs.Fill.{Filled, filled, broken, Breaks, readFill, fill-accepts, fill-broken}
 use Rattle.laws.specs.Order.{Comparison, below, equal, beyond, compared, compares, Compares, is-below, is-equal, is-beyond, irreflexive, compared-same, Before}
-use Rattle.grammar.specs.Number.{BigEndian, big-endian}
+use Rattle.grammar.specs.Number.{BigEndian}
 use Rattle.grammar.specs.Extension.{Ext, ext, Framed, framed, extensionHeader, Mandatory, sdir, Allowed, optional, empty-sdir, Extension, Extensions, NoneSigned, none-left, another, bytesOf, LastSigned, last-signed}
 use Rattle.grammar.specs.DecideNumber.{Bytes, bytes, readBytes, bytes-reads, readBig, big-reads}
 

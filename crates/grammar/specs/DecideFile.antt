@@ -4,25 +4,24 @@ use Prim.Native.Nat.{ℕ, _+_, _-_, _≤_, _<_}
 use mathlib.Core.Path.{_≡_, refl, sym, ap, _∙_, subst}
 use mathlib.Core.Bool.{Bool, true, false}
 use mathlib.Core.List.{List, [], _∷_, _++_, append-assoc}
-use mathlib.Core.Logic.{_↔_}
 use mathlib.Core.Option.{Option, some, none as nothing}
 use native.Mathlib.Omega.{arith}
 use lib.Dec.{leb, eqb}
 use lib.ListN.{length, take, drop, length-append, length-drop, take-append-drop}
-use lib.Seq.{take-at, length-take-le}
+use lib.Seq.{take-at}
 use borrow.Author.Tests.{le-leb}
 use Rattle.laws.specs.Pick.{pick}
 use Rattle.laws.specs.Tests.{AtMost, at-most, above, at-most?, Same, same, differs, same?}
-use Rattle.laws.specs.Read.{Got, got, none, Says, spelled, refused, Reads, next, says-next, says-if-at-most}
+use Rattle.laws.specs.Read.{Got, got, none, Says, spelled, refused, next, says-next, says-if-at-most}
 use Rattle.laws.specs.Fill.{Filled, filled, broken}
 use Rattle.grammar.specs.Number.{BigEndian}
 use Rattle.grammar.specs.Entry.{Meaning, start, Entries}
-use Rattle.grammar.specs.Extension.{Ext, sdir, TREE, Extensions, LastSigned, NoneSigned}
+use Rattle.grammar.specs.Extension.{Ext, sdir, TREE, Extensions, LastSigned}
 use Rattle.grammar.specs.Tree.{Tree, Node}
 use Rattle.grammar.specs.File.{Index, DIRC, headerLength, Supported, Header, header, directoryMode, Some, Sparse, by-entry, by-sdir, Tells, it-is, it-is-not, CacheTree, malformed, absent, Trailer, File, file}
 use Rattle.grammar.specs.File.Some.{this, other}
 use Rattle.grammar.specs.File.CacheTree.{spelled as spells}
-use Rattle.grammar.specs.DecideNumber.{Bytes, bytes, readBytes, bytes-reads, readBig, big-reads, Whole, means, nothing-said}
+use Rattle.grammar.specs.DecideNumber.{big-endian-length, Bytes, bytes, readBytes, bytes-reads, readBig, big-reads, Whole, means, nothing-said}
 use Rattle.grammar.specs.DecideEntry.{readEntries, entries-reads}
 use Rattle.grammar.specs.DecideExtension.{SameList, same-list, other-list, sameList, same-list?, list-true, readExtensions, extensions-accepts, readLast, SaysLast, last-is, none-is, last-says, none-not-last, last-unique}
 use Rattle.grammar.specs.DecideTree.{readTree, SaysTree, is-tree, no-tree, tree-says, tree-unique}
@@ -59,10 +58,7 @@ header-complete (header-of (header {v = v} {c = c} {version = version} x y z)) r
     rw (append-assoc v c rest, bytes-reads 4 .complete (bytes {b = DIRC} refl) (v ++ (c ++ rest)), list-true {a = DIRC} {b = DIRC} refl, big-reads 4 .complete x (c ++ rest), le-leb 2 version (y .oldest), le-leb version 4 (y .newest), big-reads 4 .complete z rest)
 
 pub header-length : {b : List ℕ} {version count : ℕ} → Header b version count → length b ≡ headerLength
-header-length (header {v = v} {c = c} x y z) = omega (arith, width x, width z, length-append v c)
-  where
-    width : {w : ℕ} {b : List ℕ} {k : ℕ} → BigEndian w b k → length b ≡ w
-    width (Rattle.grammar.specs.Number.big-endian h) = h
+header-length (header {v = v} {c = c} x y z) = omega (arith, big-endian-length x, big-endian-length z, length-append v c)
 
 -- ---- the mark
 

@@ -1,20 +1,24 @@
 -- What decides the relations of Number on lists, and bytes up to a mark. It reads no file and is no reader of the project: it only settles, for given bytes, whether a
 -- relation holds, and so that it holds of one meaning at most. Assumes nothing.
-use Prim.Native.Nat.{ℕ, zero, suc, _+_, _-_, _*_, _%_, _^_, _≤_, _<_}
+use Prim.Native.Nat.{ℕ, _+_, _-_, _*_, _%_, _^_, _≤_, _<_}
 use mathlib.Core.Path.{_≡_, refl, sym, ap, _∙_, subst}
 use mathlib.Core.Bool.{Bool, true, false}
-use mathlib.Core.List.{List, [], _∷_, _++_, append-assoc}
+use mathlib.Core.List.{List, [], _∷_, _++_, append-assoc, append-nil}
 use mathlib.Core.Option.{Option, some, none as nothing}
 use native.Mathlib.Omega.{arith}
 use lib.Dec.{leb, ltb, eqb}
 use lib.ListN.{length, take, drop, length-append, take-append-drop}
 use lib.Seq.{length-take-le, take-at, drop-at}
-use borrow.Author.Tests.{le-leb, lt-leb, lt-ltb, le-ltb, eq-eqb, ne-eqb}
+use borrow.Author.Tests.{le-leb, lt-ltb, le-ltb, eq-eqb, ne-eqb}
 use Rattle.laws.specs.Pick.{pick}
 use Rattle.laws.specs.Tests.{Less, less, not-less, less?, AtMost, at-most, above, at-most?, Same, same, differs, same?}
-use Rattle.laws.specs.Read.{Got, got, none, Says, spelled, refused, Reads, next, says-next, says-if-at-most, says-if-less}
-use Rattle.grammar.specs.Number.{bigEndian, BigEndian, big-endian, Groups, VariableWidth, Digit, Digits, last-digit, digit, Unsigned, Count, covers, invalid, Signed, plain, plus, minus-zero, minus}
+use Rattle.laws.specs.Read.{Got, got, none, Says, spelled, refused, Reads, sound, next, says-next, says-if-at-most, says-if-less}
+use Rattle.grammar.specs.Number.{followedBy, bigEndian, BigEndian, big-endian, Groups, VariableWidth, Digit, Digits, last-digit, digit, Unsigned, Count, covers, invalid, Signed, plain, plus, minus-zero, minus}
 use Rattle.grammar.specs.Number.Groups.{last, next as group}
+
+-- what is read whole is spelled
+pub decided : {A : Type 0} {R : List ℕ → A → Type 0} {read : List ℕ → Got A} → Reads R read → (b : List ℕ) (v : A) → read b ≡ got v [] → R b v
+decided {R = R} p b v e = let (c, i, x) = sound p b v [] e in subst (λ (l : List ℕ). R l v) (sym (i ∙ append-nil c)) x
 
 -- ---- so many bytes, any values
 
@@ -48,6 +52,18 @@ big-reads w = record { says = λ xs. says-next (bytes-reads w .says xs) (λ b v 
 
     complete : {b : List ℕ} {v : ℕ} → BigEndian w b v → (rest : List ℕ) → readBig w (b ++ rest) ≡ got v rest
     complete (big-endian {b = b} h) rest = rw (bytes-reads w .complete (bytes {b = b} h) rest)
+
+pub big-endian-length : {w k : ℕ} {b : List ℕ} → BigEndian w b k → length b ≡ w
+big-endian-length (big-endian h) = h
+
+-- one byte more
+followed-snoc : (v : ℕ) (b : List ℕ) (c : ℕ) → followedBy v (b ++ (c ∷ [])) ≡ followedBy v b * 256 + c
+followed-snoc v [] c = refl
+followed-snoc v (a ∷ b) c = followed-snoc (v * 256 + a) b c
+
+pub big-endian-snoc : (b : List ℕ) (c : ℕ) → bigEndian (b ++ (c ∷ [])) ≡ bigEndian b * 256 + c
+big-endian-snoc [] c = omega arith
+big-endian-snoc (a ∷ b) c = followed-snoc a b c
 
 -- ---- seven-bit groups
 

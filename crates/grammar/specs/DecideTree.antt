@@ -1,6 +1,6 @@
 -- What decides the relations of Tree on lists. It reads no file and is no reader of the project: it only settles, for given bytes, whether a relation holds, and so that it
 -- holds of one meaning at most. Assumes nothing.
-use Prim.Native.Nat.{ℕ, zero, suc, _+_, _-_, _≤_, _<_, max}
+use Prim.Native.Nat.{ℕ, zero, suc, _+_, _-_, _≤_, _<_}
 use mathlib.Core.Path.{_≡_, refl, sym, ap, _∙_, subst}
 use mathlib.Core.Bool.{Bool, true, false}
 use mathlib.Core.List.{List, [], _∷_, _++_, append-assoc, append-nil}
@@ -11,11 +11,10 @@ use lib.ListN.{length, length-append}
 use Rattle.laws.specs.Pick.{pick}
 use Rattle.laws.specs.Read.{Got, got, none, Says, spelled, refused, Reads, next, says-next}
 use Rattle.grammar.specs.Number.{Count, covers, invalid, Signed, Unsigned}
-use Rattle.grammar.specs.Entry.{NoNul}
 use Rattle.grammar.specs.Tree.{Tree, tree, Subtrees, childless, beside, names, depth, deepest, Head, Id, of-tree, no-id, NodeHead, node-head, Other, alone, differs, Distinct, no-names, one-more, Node, node, Nodes, no-node, one-node}
 use Rattle.grammar.specs.DecideNumber.{Bytes, bytes, readBytes, bytes-reads, readUntil, Ended, ended, readEnded, readSigned, readUnsigned, signed-reads, unsigned-reads}
 use Rattle.grammar.specs.DecideEntry.{Text, text, text-reads}
-use Rattle.grammar.specs.DecideExtension.{SameList, same-list, other-list, sameList, same-list?, list-false}
+use Rattle.grammar.specs.DecideExtension.{SameList, same-list, other-list, sameList, same-list?}
 
 -- ---- the head
 
@@ -236,6 +235,13 @@ tree-says n place body = go (readTree n place body) refl
     go : (o : Option Tree) → readTree n place body ≡ o → SaysTree n place body o
     go (some t) e = is-tree (sound (node-says n (length body) place body) e)
     go nothing e = no-tree (λ t x. let f = tree-complete x in let z : _≡_ {A = ℕ} 0 1 = cc in omega arith)
+
+pub tree-decided : (n place : ℕ) (body : List ℕ) (t : Tree) → (readTree n place body ≡ some t) ↔ Node n place body t
+tree-decided n place body t = (of (tree-says n place body), tree-complete)
+  where
+    of : {o : Option Tree} → SaysTree n place body o → o ≡ some t → Node n place body t
+    of (is-tree {t = u} x) e = let f : u ≡ t = cc in subst (Node n place body) f x
+    of (no-tree k) e = let z : _≡_ {A = ℕ} 0 1 = cc in absurd (omega arith)
 
 -- one tree at most
 pub tree-unique : {n place : ℕ} {body : List ℕ} {t u : Tree} → Node n place body t → Node n place body u → t ≡ u

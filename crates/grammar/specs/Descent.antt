@@ -1,12 +1,12 @@
 -- The walk of a cache tree by its nodes: a node is reached by a way down, at each level of which a head was spelled and some of its subtrees were spelled whole, fewer than
 -- it has. It is reached by such a way exactly if the walk in file order reaches it. n is the length of an id. Assumes nothing.
-use Prim.Native.Nat.{ℕ, zero, suc, _+_, _-_, _≤_, _<_, max}
+use Prim.Native.Nat.{ℕ, zero, suc, _+_, _<_}
 use mathlib.Core.Path.{_≡_, refl, sym, ap, _∙_, subst}
-use mathlib.Core.List.{List, [], _∷_, _++_, append-assoc, append-nil, append-cancel-left}
+use mathlib.Core.List.{List, [], _∷_, _++_, append-assoc, append-nil}
 use mathlib.Core.Logic.{_↔_}
 use native.Mathlib.Omega.{arith}
 use lib.ListN.{length, length-append}
-use Rattle.grammar.specs.Tree.{Tree, tree, Subtrees, childless, beside, nameOf, names, depth, deepest, nodes, nodesOf, Head, NodeHead, Distinct, Node, node, Nodes, no-node, one-node}
+use Rattle.grammar.specs.Tree.{Tree, tree, Subtrees, childless, beside, nameOf, names, nodes, nodesOf, Head, NodeHead, Distinct, Node, node, Nodes, no-node, one-node}
 use Rattle.grammar.specs.Walk.{Group, group, Walked, begins, head, finished, Reaches, reaches}
 
 mutual

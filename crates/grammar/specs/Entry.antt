@@ -1,4 +1,4 @@
--- How an entry of the index is spelled, in the context of the path before it, and how many entries are, one behind the other; after gitformat-index, "INDEX ENTRY", and 01,
+-- How an entry of the index is spelled, in the context of the path before it, and how so many of them are, one behind the other; after gitformat-index, "INDEX ENTRY", and 01,
 -- "How an entry is spelled". n is the length of an id. Assumes nothing.
 use Prim.Native.Nat.{ℕ, zero, suc, _+_, _-_, _*_, _/_, _%_, _≤_, _<_}
 use mathlib.Core.Path.{_≡_}
@@ -81,6 +81,7 @@ pub record Padding (k : ℕ) (p : List ℕ) : Type 0 where
   pub most : length p ≤ 8
   pub eights : (k + length p) % 8 ≡ 0
 
+-- none of the bytes is NUL
 pub data NoNul : List ℕ → Type 0 where
   empty : NoNul []
   byte : {c : ℕ} {s : List ℕ} → 0 < c → NoNul s → NoNul (c ∷ s)
@@ -108,11 +109,12 @@ pub data Name (version k field : ℕ) : Before → List ℕ → List ℕ → Typ
 
 -- ---- THE ENTRY, and so many of them
 
+-- the fields, the flags, and the path with what ends it
 pub data Entry (n version : ℕ) : Before → List ℕ → Meaning → Type 0 where
   entry : {before : Before} {f g r id s : List ℕ} {stat : Stat} {flags field : ℕ} → Fields n f stat id → Flags g flags field
       → Name version (length f + length g) field before r s → Entry n version before (f ++ (g ++ r)) (meaning stat id flags s)
 
--- each in the context of the path before it
+-- each is spelled in the context of the path of the one before it
 abbrev pub behind : Before → Meaning → Before
 behind before m = path (m .path)
 

@@ -1,6 +1,6 @@
 -- Files that are spelled, with what they mean, and files that nearly are and are not; a file of each version has a TREE. Each holds by computing what decides. Assumes nothing.
 use Prim.Native.Nat.{ℕ, _+_}
-use mathlib.Core.Path.{_≡_, refl}
+use mathlib.Core.Path.{refl}
 use mathlib.Core.Bool.{true, false}
 use mathlib.Core.List.{List, [], _∷_, _++_}
 use mathlib.Core.Option.{Option, some, none}
@@ -44,10 +44,10 @@ abbrev extension : List ℕ → List ℕ → List ℕ
 extension signature body = signature ++ (0 ∷ 0 ∷ 0 ∷ length body ∷ body)
 
 -- a root without a name, "2 1", an id, and in it "a", "-1 0"
-abbrev twoNodes : List ℕ
+abbrev pub twoNodes : List ℕ
 twoNodes = 0 ∷ 50 ∷ 32 ∷ 49 ∷ 10 ∷ (replicate 20 5 ++ (97 ∷ 0 ∷ 45 ∷ 49 ∷ 32 ∷ 48 ∷ 10 ∷ []))
 
-abbrev twoNodesAt : ℕ → Tree
+abbrev pub twoNodesAt : ℕ → Tree
 twoNodesAt place = tree place [] (covers 2) (replicate 20 5) (beside (tree (place + 25) (97 ∷ []) invalid [] childless) childless)
 
 abbrev trailer : List ℕ

@@ -7,6 +7,7 @@ use lib.ListN.{length, getD}
 use Rattle.laws.specs.Fill.{Fill}
 use Rattle.grammar.specs.Number.{BigEndian}
 
+-- an extension's meaning
 pub record Ext : Type 0 where
   pub signature : List ℕ
   pub body : List ℕ
@@ -49,6 +50,7 @@ Extensions = Fill Extension
 
 -- ---- which of them counts: "If a file has several TREEs only the last counts."
 
+-- none of them has this signature
 pub data NoneSigned (signature : List ℕ) : List Ext → Type 0 where
   none-left : NoneSigned signature []
   another : {e : Ext} {es : List Ext} → (e .signature ≡ signature → ⊥) → NoneSigned signature es → NoneSigned signature (e ∷ es)

@@ -1,15 +1,15 @@
 -- What the walk of a cache tree reaches: after so many heads one depth at most, and in a body that spells a tree each depth of it, after as many heads as it has nodes before.
 -- So a limit of depth or of nodes that the walk keeps within is one that the tree does. n is the length of an id. Assumes nothing.
-use Prim.Native.Nat.{ℕ, zero, suc, _+_, _-_, _≤_, _<_, max}
+use Prim.Native.Nat.{ℕ, zero, suc, _+_, _-_, _≤_, _<_}
 use mathlib.Core.Path.{_≡_, refl, sym, ap, _∙_, subst}
-use mathlib.Core.List.{List, [], _∷_, _++_, append-assoc, append-nil}
-use mathlib.Core.Logic.{_↔_, _⊎_, inl, inr, ⊎-elim}
+use mathlib.Core.List.{List, [], _++_, append-assoc, append-nil}
+use mathlib.Core.Logic.{_↔_, ⊎-elim}
 use native.Mathlib.Omega.{arith}
 use lib.ListN.{length}
 use Rattle.laws.specs.Tests.{lt-or-ge}
-use Rattle.grammar.specs.Tree.{Tree, tree, Subtrees, childless, beside, depth, deepest, nodes, nodesOf, Head, NodeHead, Node, node, Nodes, no-node, one-node}
+use Rattle.grammar.specs.Tree.{Tree, tree, Subtrees, childless, beside, depth, deepest, nodes, nodesOf, Head, Node, node, Nodes, no-node, one-node}
 use Rattle.grammar.specs.Walk.{Reaches}
-use Rattle.grammar.specs.Descent.{Comes, here, below, ComesAmong, in-this, past, some-left, moved, reached-exactly-by-a-way}
+use Rattle.grammar.specs.Descent.{Comes, here, below, ComesAmong, in-this, past, some-left, reached-exactly-by-a-way}
 use Rattle.grammar.specs.Unique.{head-unique, node-unique}
 
 -- ---- within a tree that is spelled

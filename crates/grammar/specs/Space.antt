@@ -2,17 +2,17 @@
 use Prim.Native.Nat.{ℕ, _+_, _-_, _≤_}
 use mathlib.Core.Path.{_≡_, refl, sym, ap, _∙_, subst}
 use mathlib.Core.Bool.{Bool}
-use mathlib.Core.List.{List, [], _∷_, _++_, append-assoc}
+use mathlib.Core.List.{List, _++_, append-assoc}
 use mathlib.Core.Logic.{_↔_}
 use mathlib.Core.Option.{Option}
 use native.Mathlib.Omega.{arith}
 use lib.ListN.{length, take, drop, length-append, length-drop, take-append-drop}
 use lib.Seq.{take-at, drop-at, take-add, drop-drop, take-take, length-take-le}
-use Rattle.grammar.specs.Number.{bigEndian, BigEndian, big-endian}
+use Rattle.grammar.specs.Number.{bigEndian, big-endian}
 use Rattle.grammar.specs.Entry.{Meaning, start, Entries}
 use Rattle.grammar.specs.Extension.{Ext, Extensions}
 use Rattle.grammar.specs.Tree.{Tree}
-use Rattle.grammar.specs.File.{Index, DIRC, headerLength, Supported, Header, header, Sparse, Tells, CacheTree, Trailer, File, file, versionOf, countOf, space, GoodHeader}
+use Rattle.grammar.specs.File.{Index, DIRC, headerLength, Supported, Header, header, Sparse, Tells, CacheTree, File, file, versionOf, countOf, space, GoodHeader}
 use Rattle.grammar.specs.DecideFile.{header-length}
 
 -- what the bytes between header and trailer spell

@@ -64,17 +64,18 @@ pub data NodeHead (n : ℕ) : List ℕ → Head → Type 0 where
 
 -- ---- THE NODE
 
--- "Sibling names differ."
+-- a name that is none of the others
 pub data Other (name : List ℕ) : List (List ℕ) → Type 0 where
   alone : Other name []
   differs : {name₁ : List ℕ} {more : List (List ℕ)} → (name ≡ name₁ → ⊥) → Other name more → Other name (name₁ ∷ more)
 
+-- "Sibling names differ."
 pub data Distinct : List (List ℕ) → Type 0 where
   no-names : Distinct []
   one-more : {name : List ℕ} {more : List (List ℕ)} → Other name more → Distinct more → Distinct (name ∷ more)
 
 mutual
-  -- "then its subtrees"; "A node's subtrees are read by the same rule."
+  -- a head, "then its subtrees", from a place of the file on; "A node's subtrees are read by the same rule one level down"
   pub data Node (n : ℕ) : ℕ → List ℕ → Tree → Type 0 where
     node : {place : ℕ} {x h b : List ℕ} {head : Head} {subtrees : Subtrees} → NodeHead n h head → Nodes n (place + length h) (head .subtrees) b subtrees → Distinct (names subtrees)
         → x ≡ h ++ b → Node n place x (tree place (head .name) (head .count) (head .id) subtrees)

@@ -1,23 +1,25 @@
 -- The grammar spells at most one meaning: of a list of bytes that begins with an entry, with so many entries, with an extension, with a node, and of a whole file; and a
 -- list is a file exactly if what decides says so. Assumes nothing.
-use Prim.Native.Nat.{ℕ, _+_, _-_, _≤_, max}
-use mathlib.Core.Path.{_≡_, refl, sym, ap, _∙_, subst}
-use mathlib.Core.List.{List, [], _∷_, _++_}
+use Prim.Native.Nat.{ℕ, max}
+use mathlib.Core.Path.{_≡_, refl, subst}
+use mathlib.Core.List.{List}
 use mathlib.Core.Logic.{_↔_}
 use mathlib.Core.Option.{Option, some, none as nothing}
 use native.Mathlib.Omega.{arith}
 use Rattle.laws.specs.Read.{Begins, unique}
 use Rattle.laws.specs.Fill.{fill-unique}
 use Rattle.grammar.specs.Number.{VariableWidth}
-use Rattle.grammar.specs.Entry.{Meaning, Before, Entry, Entries}
+use Rattle.grammar.specs.Entry.{Before, Entry, Entries}
 use Rattle.grammar.specs.Extension.{Ext, Framed, Extension, Extensions}
-use Rattle.grammar.specs.Tree.{Tree, depth, Head, NodeHead, Node}
+use Rattle.grammar.specs.Tree.{depth, NodeHead, Node}
 use Rattle.grammar.specs.File.{Index, File}
 use Rattle.grammar.specs.DecideNumber.{variable-reads, Whole, means, nothing-said}
 use Rattle.grammar.specs.DecideEntry.{entry-reads, entries-reads}
 use Rattle.grammar.specs.DecideExtension.{framed-reads, extension-reads, extension-some}
 use Rattle.grammar.specs.DecideTree.{head-reads, node-reads}
+pub use Rattle.grammar.specs.DecideTree.{tree-unique}
 use Rattle.grammar.specs.DecideFile.{readFile, file-says, file-complete}
+pub use Rattle.grammar.specs.DecideFile.{cache-tree-unique}
 
 -- v and w are spelled by the same first bytes of xs, and mean the same
 abbrev pub SameMeaning : {A : Type 0} (R : List ℕ → A → Type 0) → Type 0
