@@ -1,8 +1,13 @@
--- `measure::read_head` meets its contract. Assumes nothing.
-use borrow.Author.Needs.{needs}
 use Rattle.measure.specs.Laws.{laws}
+use borrow.Author.Needs.{needs}
 use Rattle.measure.proofs.read_head.Statement.{statement}
 use Rattle.measure.proofs.read_head.Tie as tie
+use Rattle.measure.proofs.read_head.Reads as reads
+use Rattle.measure.proofs.read_head.Lts as lts
+use Rattle.entry.proofs.flags.is_extended.Reads as is-extended-reads
+use Rattle.entry.proofs.flags.to_memory.Reads as to-memory-reads
+use Rattle.measure.proofs.read_extended.Reads as read-extended-reads
+use Rattle.wire.proofs.be16.Reads as be16-reads
 
 returns : tie.Need-returns
 returns c = search (laws, needs)
@@ -19,23 +24,23 @@ add-be16 c = search (laws, needs)
 be16-requires : tie.Need-be16-requires
 be16-requires c κs = search (laws, needs)
 
-cast-bits : tie.Need-cast-bits
-cast-bits c = search (laws, needs)
-
-mul-kept : tie.Need-mul-kept
-mul-kept c = search (laws, needs)
+to-memory-requires : tie.Need-to-memory-requires
+to-memory-requires c κs = search (laws, needs)
 
 cast-field : tie.Need-cast-field
 cast-field c = search (laws, needs)
 
-returns-4 : tie.Need-returns-4
-returns-4 c = search (laws, needs)
+is-extended-requires : tie.Need-is-extended-requires
+is-extended-requires c κs = search (laws, needs)
 
 add-read-extended : tie.Need-add-read-extended
 add-read-extended c = search (laws, needs)
 
 read-extended-requires : tie.Need-read-extended-requires
 read-extended-requires c κs = search (laws, needs)
+
+returns-4 : tie.Need-returns-4
+returns-4 c = search (laws, needs)
 
 returns-5 : tie.Need-returns-5
 returns-5 c = search (laws, needs)
@@ -49,10 +54,10 @@ read-head-spec =
     returns-3
     add-be16
     be16-requires
-    cast-bits
-    mul-kept
+    to-memory-requires
     cast-field
-    returns-4
+    is-extended-requires
     add-read-extended
     read-extended-requires
+    returns-4
     returns-5)
