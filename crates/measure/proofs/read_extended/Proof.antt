@@ -1,14 +1,9 @@
+-- `measure::read_extended` meets its contract. Assumes nothing.
 use native.Mathlib.Omega.{arith}
-use Rattle.measure.specs.Laws.{extended-small}
-use Rattle.measure.specs.Laws.{laws}
 use borrow.Author.Needs.{needs}
+use Rattle.measure.specs.Laws.{extended-small, laws}
 use Rattle.measure.proofs.read_extended.Statement.{statement}
 use Rattle.measure.proofs.read_extended.Tie as tie
-use Rattle.measure.proofs.read_extended.Reads as reads
-use Rattle.measure.proofs.read_extended.Lts as lts
-use Rattle.entry.proofs.flags.extended_to_memory.Reads as extended-to-memory-reads
-use Rattle.measure.proofs.upper_byte.Reads as upper-byte-reads
-use Rattle.wire.proofs.be16.Reads as be16-reads
 
 sub-room : tie.Need-sub-room
 sub-room c = search (laws, needs)

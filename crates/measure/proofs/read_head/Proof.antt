@@ -1,13 +1,8 @@
-use Rattle.measure.specs.Laws.{laws}
+-- `measure::read_head` meets its contract. Assumes nothing.
 use borrow.Author.Needs.{needs}
+use Rattle.measure.specs.Laws.{laws}
 use Rattle.measure.proofs.read_head.Statement.{statement}
 use Rattle.measure.proofs.read_head.Tie as tie
-use Rattle.measure.proofs.read_head.Reads as reads
-use Rattle.measure.proofs.read_head.Lts as lts
-use Rattle.entry.proofs.flags.is_extended.Reads as is-extended-reads
-use Rattle.entry.proofs.flags.to_memory.Reads as to-memory-reads
-use Rattle.measure.proofs.read_extended.Reads as read-extended-reads
-use Rattle.wire.proofs.be16.Reads as be16-reads
 
 returns : tie.Need-returns
 returns c = search (laws, needs)
