@@ -3,3 +3,5 @@ pub mod Order
 pub mod Verify
 pub mod Lookup
 pub mod Laws
+pub mod Steps
+pub mod Sorted
