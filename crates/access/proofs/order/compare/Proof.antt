@@ -1,0 +1,42 @@
+-- `access::order::compare` meets its contract. Assumes nothing.
+use Rattle.access.specs.Laws.{laws}
+use borrow.Author.Needs.{needs}
+use Rattle.access.proofs.order.compare.Statement.{statement}
+use Rattle.access.proofs.order.compare.Tie as tie
+
+agree-requires : tie.Need-agree-requires
+agree-requires c κs = search needs
+
+returns : tie.Need-returns
+returns c = search (laws, needs)
+
+returns-2 : tie.Need-returns-2
+returns-2 c = search (laws, needs)
+
+returns-3 : tie.Need-returns-3
+returns-3 c = search (laws, needs)
+
+shared-slice-read-if4 : tie.Need-shared-slice-read-if4
+shared-slice-read-if4 c = search needs
+
+shared-slice-read-if4-2 : tie.Need-shared-slice-read-if4-2
+shared-slice-read-if4-2 c = search needs
+
+returns-4 : tie.Need-returns-4
+returns-4 c = search (laws, needs)
+
+returns-5 : tie.Need-returns-5
+returns-5 c = search (laws, needs)
+
+pub compare-spec : {M : Type 1} → statement M
+compare-spec =
+    tie.close
+    (tie.spec
+    agree-requires
+    returns
+    returns-2
+    returns-3
+    shared-slice-read-if4
+    shared-slice-read-if4-2
+    returns-4
+    returns-5)

@@ -1,0 +1,38 @@
+-- `access::probe_at` meets its contract. Assumes nothing.
+use Rattle.access.specs.Laws.{laws}
+use borrow.Author.Needs.{needs}
+use Rattle.access.proofs.probe_at.Statement.{statement}
+use Rattle.access.proofs.probe_at.Tie as tie
+
+lies-inside-requires : tie.Need-lies-inside-requires
+lies-inside-requires c κs = search needs
+
+path-of-requires : tie.Need-path-of-requires
+path-of-requires c κs = search needs
+
+stage-at-requires : tie.Need-stage-at-requires
+stage-at-requires c κs = search needs
+
+compare-requires : tie.Need-compare-requires
+compare-requires c κs = search needs
+
+then-stage-requires : tie.Need-then-stage-requires
+then-stage-requires c κs = search needs
+
+returns : tie.Need-returns
+returns c = search (laws, needs)
+
+returns-2 : tie.Need-returns-2
+returns-2 c = search (laws, needs)
+
+pub probe-at-spec : {M : Type 1} → statement M
+probe-at-spec =
+    tie.close
+    (tie.spec
+    lies-inside-requires
+    path-of-requires
+    stage-at-requires
+    compare-requires
+    then-stage-requires
+    returns
+    returns-2)

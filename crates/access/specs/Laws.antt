@@ -1,0 +1,243 @@
+-- Laws of the definitions of access in the directions that the code's proofs ask: turns of the loops, and each answer by its tests. Assumes nothing.
+use mathlib.Core.Path.{_≡_, refl, sym, ap, _∙_}
+use mathlib.Core.Bool.{Bool, true, false}
+use mathlib.Core.List.{List, [], _∷_}
+use Prim.Native.Nat.{ℕ, zero, suc, _+_, _-_, _/_, _≤_, _<_}
+use native.Mathlib.Nat.{sub-zero, add-assoc}
+use native.Mathlib.Omega.{arith}
+use lib.ListN.{length, getD, drop, length-drop, drop-of-length-le}
+use lib.Dec.{ltb, eqb}
+use lib.Seq.{getD-drop}
+use borrow.Author.Tests.{lt-ltb, le-ltb, eq-eqb, ne-eqb}
+use Rattle.laws.specs.Pick.{pick}
+use Rattle.laws.specs.Tests.{Same, same, differs, same?}
+use Rattle.laws.specs.Lists.{drop-next}
+use Rattle.laws.specs.Order.{Comparison, below, equal, beyond, compared, compared-lt, compared-gt, compared-eq}
+use Rattle.entry.specs.Record.{recordsIn, stageAt, liesInside, pathAt}
+use Rattle.access.specs.Order.{orderOf, byStage, placed, agreeing}
+use Rattle.access.specs.Verify.{isLess, followsAt, verifyFrom, verifyAt}
+use Rattle.access.specs.Lookup.{probeAt, turn, halve, searchAt, lookupAt}
+use Rattle.access.specs.declared.order.Order.{Order}
+use Rattle.access.specs.declared.order.Order.the-variants.{Less, Equal, Greater}
+use Rattle.access.specs.declared.verify.Verified.{Verified}
+use Rattle.access.specs.declared.verify.Verified.the-variants.{Sorted, NotAfter}
+use Rattle.access.specs.declared.verify.Verified.the-variants as verified
+use Rattle.access.specs.declared.Probe.{Probe}
+use Rattle.access.specs.declared.Probe.the-variants.{Is, Outside}
+use Rattle.access.specs.declared.Found.{Found}
+use Rattle.access.specs.declared.Found.the-variants.{At, Absent, NoStage, PathOutside}
+
+-- ---- the leading bytes that agree: k are found, and what is left answers r
+
+module _ (a b : List ℕ) (k r : ℕ) (inv : k + agreeing (drop k a) (drop k b) ≡ r) where
+  pub agree-first : length a ≤ k → k ≡ r
+  unfolding agreeing
+  agree-first h = let e : drop k a ≡ [] = drop-of-length-le a {i = k} h in omega (arith, rw e at inv)
+
+  module _ (h : k < length a) where
+    pub agree-second : length b ≤ k → k ≡ r
+    unfolding agreeing
+    agree-second l = let e : drop k b ≡ [] = drop-of-length-le b {i = k} l in omega (arith, rw (e, drop-next a k h) at inv)
+
+    module _ (l : k < length b) where
+      pub agree-part : (getD a k 0 ≡ getD b k 0 → ⊥) → k ≡ r
+      unfolding agreeing
+      agree-part e = omega (arith, rw (drop-next a k h, drop-next b k l, ne-eqb (getD a k 0) (getD b k 0) e) at inv)
+
+      pub agree-more : getD a k 0 ≡ getD b k 0 → k + 1 + agreeing (drop (k + 1) a) (drop (k + 1) b) ≡ r
+      unfolding agreeing
+      agree-more e = omega (arith, rw (drop-next a k h, drop-next b k l, eq-eqb (getD a k 0) (getD b k 0) e) at inv)
+
+-- ---- where two paths part
+
+part-eq : (x y : ℕ) (xs ys : List ℕ) (t : Bool) → Same x y t → compared xs ys ≡ compared (drop (agreeing xs ys) xs) (drop (agreeing xs ys) ys)
+    → compared (x ∷ xs) (y ∷ ys) ≡ compared (drop (pick t (suc (agreeing xs ys)) 0) (x ∷ xs)) (drop (pick t (suc (agreeing xs ys)) 0) (y ∷ ys))
+part-eq x y xs ys true (same e) ih = compared-eq x y xs ys e ∙ ih
+part-eq x y xs ys false (differs e) ih = refl
+
+-- what agrees decides nothing
+pub parted : (a b : List ℕ) → compared a b ≡ compared (drop (agreeing a b) a) (drop (agreeing a b) b)
+unfolding agreeing
+parted [] b = refl
+parted (x ∷ xs) [] = refl
+parted (x ∷ xs) (y ∷ ys) = part-eq x y xs ys (eqb x y) (same? x y) (parted xs ys)
+
+apart-eq : (x y : ℕ) (xs ys : List ℕ) (t : Bool) → Same x y t → (agreeing xs ys < length xs → agreeing xs ys < length ys → getD xs (agreeing xs ys) 0 ≡ getD ys (agreeing xs ys) 0 → ⊥)
+    → pick t (suc (agreeing xs ys)) 0 < suc (length xs) → pick t (suc (agreeing xs ys)) 0 < suc (length ys)
+    → getD (x ∷ xs) (pick t (suc (agreeing xs ys)) 0) 0 ≡ getD (y ∷ ys) (pick t (suc (agreeing xs ys)) 0) 0 → ⊥
+apart-eq x y xs ys true (same e) ih h k q = ih (omega arith) (omega arith) q
+apart-eq x y xs ys false (differs e) ih h k q = e q
+
+-- the first bytes behind what agrees differ
+pub apart : (a b : List ℕ) → agreeing a b < length a → agreeing a b < length b → getD a (agreeing a b) 0 ≡ getD b (agreeing a b) 0 → ⊥
+unfolding agreeing
+apart [] b h k q = omega arith
+apart (x ∷ xs) [] h k q = omega arith
+apart (x ∷ xs) (y ∷ ys) h k q = apart-eq x y xs ys (eqb x y) (same? x y) (apart xs ys) h k q
+
+module _ (a b : List ℕ) (k : ℕ) (e : k ≡ agreeing a b) where
+  at-part : compared a b ≡ compared (drop k a) (drop k b)
+  at-part = rw e (parted a b)
+
+  pub compare-equal : length a ≤ k → length b ≤ k → Equal ≡ orderOf (compared a b)
+  unfolding compared
+  compare-equal h l = sym (rw (at-part, drop-of-length-le a {i = k} h, drop-of-length-le b {i = k} l))
+
+  pub compare-prefix : length a ≤ k → k < length b → Less ≡ orderOf (compared a b)
+  unfolding compared
+  compare-prefix h l = sym (rw (at-part, drop-of-length-le a {i = k} h, drop-next b k l))
+
+  module _ (h : k < length a) where
+    pub compare-longer : length b ≤ k → Greater ≡ orderOf (compared a b)
+    unfolding compared
+    compare-longer l = sym (rw (at-part, drop-next a k h, drop-of-length-le b {i = k} l))
+
+    module _ (l : k < length b) where
+      opened : compared a b ≡ compared (getD a k 0 ∷ drop (k + 1) a) (getD b k 0 ∷ drop (k + 1) b)
+      opened = rw (at-part, drop-next a k h, drop-next b k l)
+
+      pub compare-less : getD a k 0 < getD b k 0 → Less ≡ orderOf (compared a b)
+      compare-less m = sym (ap orderOf (opened ∙ compared-lt (getD a k 0) (getD b k 0) (drop (k + 1) a) (drop (k + 1) b) m))
+
+      pub compare-greater : getD b k 0 ≤ getD a k 0 → Greater ≡ orderOf (compared a b)
+      compare-greater m =
+          let ne : getD a k 0 ≡ getD b k 0 → ⊥ = rw (← e) at (apart a b) h l in
+          sym (ap orderOf (opened ∙ compared-gt (getD a k 0) (getD b k 0) (drop (k + 1) a) (drop (k + 1) b) (more (getD a k 0) (getD b k 0) m ne)))
+        where
+          more : (x y : ℕ) → y ≤ x → (x ≡ y → ⊥) → y < x
+          more x y u v = omega arith
+
+-- ---- then the stage
+
+module _ (o : Order) (g h : ℕ) where
+  pub stage-less : o ≡ Less → Less ≡ byStage o g h
+  stage-less e = sym (rw e)
+
+  pub stage-greater : o ≡ Greater → Greater ≡ byStage o g h
+  stage-greater e = sym (rw e)
+
+  module _ (e : o ≡ Equal) where
+    pub stage-below : g < h → Less ≡ byStage o g h
+    stage-below l = sym (rw (e, lt-ltb g h l))
+
+    pub stage-beyond : h ≤ g → h < g → Greater ≡ byStage o g h
+    stage-beyond m l = sym (rw (e, le-ltb g h m, lt-ltb h g l))
+
+    pub stage-same : h ≤ g → g ≤ h → Equal ≡ byStage o g h
+    stage-same m l = sym (rw (e, le-ltb g h m, le-ltb h g l))
+
+-- ---- the order check: what is left of it, from record i on, answers r
+
+module _ (rs ps : List ℕ) (i : ℕ) where
+  pub follows-first : i ≡ 0 → true ≡ followsAt rs ps i
+  unfolding followsAt
+  follows-first e = sym (rw (eq-eqb i 0 e))
+
+  module _ (e : i ≡ 0 → ⊥) (a b : List ℕ) (g h : ℕ) (by o : Order) (ea : a ≡ pathAt rs ps (i - 1)) (eb : b ≡ pathAt rs ps i) (eby : by ≡ orderOf (compared a b)) (eg : g ≡ stageAt rs (i - 1)) (eh : h ≡ stageAt rs i) (eo : o ≡ byStage by g h) where
+    follows-by : followsAt rs ps i ≡ isLess o
+    unfolding followsAt
+    follows-by = rw (ne-eqb i 0 e, ← ea, ← eb, ← eg, ← eh, ← eby, ← eo)
+
+    pub follows-less : o ≡ Less → true ≡ followsAt rs ps i
+    follows-less q = sym (follows-by ∙ ap isLess q)
+
+    pub follows-equal : o ≡ Equal → false ≡ followsAt rs ps i
+    follows-equal q = sym (follows-by ∙ ap isLess q)
+
+    pub follows-greater : o ≡ Greater → false ≡ followsAt rs ps i
+    follows-greater q = sym (follows-by ∙ ap isLess q)
+
+pub verify-start : (rs ps : List ℕ) (n : ℕ) → n ≡ recordsIn rs → verifyFrom rs ps (n - 0) 0 ≡ verifyAt rs ps
+unfolding verifyAt
+verify-start rs ps n e = rw (sub-zero n, e)
+
+module _ (rs ps : List ℕ) (n i : ℕ) (r : Verified) (inv : verifyFrom rs ps (n - i) i ≡ r) where
+  pub verify-done : n ≤ i → Sorted ≡ r
+  unfolding verifyFrom
+  verify-done h = let z : n - i ≡ 0 = omega arith in sym (rw z) ∙ inv
+
+  module _ (h : i < n) (t : Bool) (et : t ≡ liesInside rs ps i) where
+    left : n - i ≡ suc (n - (i + 1))
+    left = omega arith
+
+    pub verify-outside : t ≡ false → verified.PathOutside i ≡ r
+    unfolding verifyFrom
+    verify-outside q = sym (rw (left, ← et, q)) ∙ inv
+
+    module _ (q : t ≡ true) (u : Bool) (eu : u ≡ followsAt rs ps i) where
+      pub verify-not-after : u ≡ false → NotAfter i ≡ r
+      unfolding verifyFrom
+      verify-not-after p = sym (rw (left, ← et, q, ← eu, p)) ∙ inv
+
+      pub verify-next : u ≡ true → verifyFrom rs ps (n - (i + 1)) (i + 1) ≡ r
+      unfolding verifyFrom
+      verify-next p = sym (rw (left, ← et, q, ← eu, p)) ∙ inv
+
+-- ---- one record, as lookup sees it
+
+module _ (rs ps key : List ℕ) (stage i : ℕ) (t : Bool) (et : t ≡ liesInside rs ps i) where
+  pub probe-outside : t ≡ false → Outside ≡ probeAt rs ps key stage i
+  unfolding probeAt
+  probe-outside q = sym (rw (← et, q))
+
+  pub probe-is : t ≡ true → (a : List ℕ) (g : ℕ) (by o : Order) → a ≡ pathAt rs ps i → g ≡ stageAt rs i → by ≡ orderOf (compared a key) → o ≡ byStage by g stage → Is o ≡ probeAt rs ps key stage i
+  unfolding probeAt
+  probe-is q a g by o ea eg eby eo = sym (rw (← et, q, ← ea, ← eg, ← eby, ← eo))
+
+-- ---- halving: what is left of it answers r
+
+-- no record is left
+halve-stop : (p : ℕ → Probe) (f low high k : ℕ) → high ≤ low → halve p f low high k ≡ Absent k
+unfolding halve
+halve-stop p zero low high k h = refl
+halve-stop p (suc f) low high k h = rw (le-ltb low high h)
+
+-- one turn. The turns left are n less what has been compared
+halve-turn : (p : ℕ → Probe) (n low high k : ℕ) (a : Probe) {b : Probe} → k < n → low < high → a ≡ p ((low + high) / 2) → a ≡ b
+    → halve p (n - k) low high k ≡ turn (λ l h. halve p (n - (k + 1)) l h (k + 1)) low high ((low + high) / 2) (k + 1) b
+unfolding halve
+halve-turn p n low high k a h l e q = let f : n - k ≡ suc (n - (k + 1)) = omega arith in rw (f, lt-ltb low high l, ← e, q)
+
+module _ (p : ℕ → Probe) (n low high k : ℕ) (r : Found) (inv : halve p (n - k) low high k ≡ r) where
+  pub found-none : high ≤ low → Absent k ≡ r
+  found-none h = sym (halve-stop p (n - k) low high k h) ∙ inv
+
+  module _ (w : high - low + k ≤ n) (l : low < high) (a : Probe) (e : a ≡ p ((low + high) / 2)) where
+    pub found-outside : a ≡ Outside → PathOutside ((low + high) / 2) ≡ r
+    found-outside q = sym (halve-turn p n low high k a (omega arith) l e q) ∙ inv
+
+    module _ (o : Order) (q : a ≡ Is o) where
+      pub found-at : o ≡ Equal → At ((low + high) / 2) (k + 1) ≡ r
+      found-at z = sym (halve-turn p n low high k a (omega arith) l e (q ∙ ap Is z)) ∙ inv
+
+      pub found-low : o ≡ Less → halve p (n - (k + 1)) ((low + high) / 2 + 1) high (k + 1) ≡ r
+      found-low z = sym (halve-turn p n low high k a (omega arith) l e (q ∙ ap Is z)) ∙ inv
+
+      found-high : o ≡ Greater → halve p (n - (k + 1)) low ((low + high) / 2) (k + 1) ≡ r
+      found-high z = sym (halve-turn p n low high k a (omega arith) l e (q ∙ ap Is z)) ∙ inv
+
+-- the middle as a number of its own: it is all of `high` that the goal shows
+pub found-up : (p : ℕ → Probe) (n low high k m : ℕ) (r : Found) → halve p (n - k) low high k ≡ r → high - low + k ≤ n → low < high → (a : Probe) → a ≡ p m → m ≡ (low + high) / 2 → (o : Order) → a ≡ Is o → o ≡ Greater
+    → halve p (n - (k + 1)) low m (k + 1) ≡ r
+found-up p n low high k m r inv w l a e q o y z = rw q (found-high p n low high k r inv w l a (rw q at e) o y z)
+
+pub search-start : (rs ps key : List ℕ) (stage n : ℕ) → n ≡ recordsIn rs → halve (probeAt rs ps key stage) (n - 0) 0 n 0 ≡ searchAt rs ps key stage
+unfolding searchAt
+search-start rs ps key stage n e = rw (sub-zero n, e)
+
+module _ (rs ps key : List ℕ) (stage : ℕ) where
+  pub lookup-far : 3 < stage → NoStage ≡ lookupAt rs ps key stage
+  unfolding lookupAt
+  lookup-far h = sym (rw (lt-ltb 3 stage h))
+
+  pub lookup-near : (r : Found) → r ≡ searchAt rs ps key stage → stage < 4 → r ≡ lookupAt rs ps key stage
+  unfolding lookupAt
+  lookup-near r e h = e ∙ sym (rw (le-ltb 3 stage (omega arith)))
+
+pub ruleset orders = (agree-first, agree-second, agree-part, agree-more, compare-equal, compare-prefix, compare-longer, compare-less, compare-greater, stage-less, stage-greater, stage-below, stage-beyond, stage-same)
+
+pub ruleset checks = (follows-first, follows-less, follows-equal, follows-greater, verify-start, verify-done, verify-outside, verify-not-after, verify-next)
+
+pub ruleset halves = (probe-outside, probe-is, found-none, found-outside, found-at, found-low, found-up, search-start, lookup-far, lookup-near)
+
+pub ruleset laws = (orders, checks, halves)

@@ -1,0 +1,66 @@
+// The order of records: by the bytes of the path, unsigned, a prefix first; then by stage.
+ghost use mathlib.Core.Path.{_≡_};
+ghost use Rattle.laws.specs.Order.{compared};
+ghost use Rattle.access.specs.Order.{orderOf, byStage, agreeing};
+
+pub enum Order {
+    Less,
+    Equal,
+    Greater,
+}
+
+// How many leading bytes agree.
+pub fn agree(a: &[u8], b: &[u8]) -> usize
+    ensures { λ r. ⌜ r ≡ agreeing (now (a .entry)) (now (b .entry)) ⌝ }
+{
+    let mut k: usize = 0;
+    while k < a.len() {
+        if b.len() <= k {
+            return k;
+        }
+        if a[k] != b[k] {
+            return k;
+        }
+        k += 1;
+    }
+    k
+}
+
+// How path a stands to path b: decided by the first byte in which they part.
+pub fn compare(a: &[u8], b: &[u8]) -> Order
+    ensures { λ r. ⌜ r ≡ orderOf (compared (now (a .entry)) (now (b .entry))) ⌝ }
+{
+    let k = agree(a, b);
+    if a.len() <= k {
+        if b.len() <= k {
+            return Order::Equal;
+        }
+        return Order::Less;
+    }
+    if b.len() <= k {
+        return Order::Greater;
+    }
+    if a[k] < b[k] {
+        return Order::Less;
+    }
+    Order::Greater
+}
+
+// Where the paths are equal the stages decide.
+pub fn then_stage(by_path: Order, a: u32, b: u32) -> Order
+    ensures { λ r. ⌜ r ≡ byStage «by_path» a b ⌝ }
+{
+    match by_path {
+        Order::Less => Order::Less,
+        Order::Greater => Order::Greater,
+        Order::Equal => {
+            if a < b {
+                return Order::Less;
+            }
+            if b < a {
+                return Order::Greater;
+            }
+            Order::Equal
+        }
+    }
+}
