@@ -237,7 +237,7 @@ pub fn name_inside(names: &[u8], nodes: &[u8], i: usize) -> bool
 }
 
 // The name of node i; empty where it does not lie in the bytes that hold the names.
-pub fn name<'a>(names: &'a [u8], nodes: &'a [u8], i: usize) -> &'a [u8]
+pub fn name<'a, 'b>(names: &'a [u8], nodes: &'b [u8], i: usize) -> &'a [u8]
     ensures { λ r. ⌜ now r ≡ nameAt (now (names .entry)) (now (nodes .entry)) i ⌝ }
 {
     let start = word(nodes, i, 0) as usize;
