@@ -1,0 +1,2 @@
+-- Laws of the walk.
+use mathlib.Core.Path.{_≡_}
