@@ -7,7 +7,6 @@ ghost use lib.Seq.{paste};
 ghost use Rattle.wire.specs.Places.{fileAt};
 ghost use Rattle.node.specs.Head.{spacedAt, endedAt, headAt};
 ghost use Rattle.node.specs.Store.{numbersOf, putAt, wordAt, nameStartAt, nameEndAt, countAt, subtreesAt, parentAt, idAt, nameInside, nameAt, nodesIn};
-
 use slices::Ends;
 use wire::FileAt;
 use wire::Signed;
@@ -60,7 +59,15 @@ fn spaced(file: &[u8], at: usize, end: usize) -> Unsigned
 }
 
 // Behind the subtree count: a newline, and then an id of so many bytes.
-fn ended(file: &[u8], end: usize, start: usize, stop: usize, count: u64, bytes: usize, u: Unsigned) -> Head
+fn ended(
+    file: &[u8],
+    end: usize,
+    start: usize,
+    stop: usize,
+    count: u64,
+    bytes: usize,
+    u: Unsigned,
+) -> Head
     requires { ⌜ end ≤ length (now file) ⌝ }
     ensures { λ r. ⌜ r ≡ endedAt (now (file .entry)) end start stop count bytes u ⌝ }
 {

@@ -28,7 +28,6 @@ use Rattle.tree.specs.Frame.{Kept, not-read, read-used, then-kept, kids-
 module _ (idLength : ℕ) (fits : idLength ≤ 32) (s : List ℕ) (end least : ℕ) (P : ℕ → List ℕ → Type 0)
     (local : (j : ℕ) (ns ms : List ℕ) → length ms ≡ length ns → ((m : ℕ) → m < 72 → getD ms (j * 72 + m) 0 ≡ getD ns (j * 72 + m) 0) → P j ns → P j ms)
     (stores : (at : ℕ) (n : Node) (parent : ℕ) (ns : List ℕ) (j : ℕ) → headAt idLength s at end ≡ Is n → j < length ns / 72 → length ns < 256 ^ 8 → least ≤ parent → parent < j → P j (putAt s n parent ns j)) where
-
   -- it holds of every node from `from` on that the outcome has
   abbrev Holds : ℕ → Out → Type 0
   Holds from o = (n u : ℕ) → o .0 ≡ Read n u → (j : ℕ) → from ≤ j → j < u → P j (o .1)

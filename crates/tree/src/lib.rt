@@ -4,7 +4,6 @@ ghost use mathlib.Core.Path.{_≡_};
 ghost use lib.ListN.{length};
 ghost use Rattle.tree.specs.Tree.{nodeAt, settledAs, rootAt, readTree, answerOf, refusalOf};
 ghost use Rattle.siblings.specs.InOrder.{SoFar};
-
 use node::Head;
 use siblings::Rising;
 
@@ -81,7 +80,11 @@ fn one_recursive(
             let mut next = n.next;
             let mut have = used + 1;
             let mut left = n.subtrees;
-            let mut so = Rising { last: used, bytes: true, git: true };
+            let mut so = Rising {
+                last: used,
+                bytes: true,
+                git: true,
+            };
             while 0 < left {
                 let a = one_recursive(file, next, end, nodes, have, used as u64, below);
                 match a {

@@ -1,5 +1,5 @@
 use borrow.Author.Needs.{needs}
-use Rattle.tree.specs.Laws.{walks}
+use Rattle.tree.specs.Laws.{walks, so-far-next}
 use mathlib.Core.Path.{_≡_}
 use lib.ListN.{length}
 use Prim.Native.Nat.{ℕ, _^_, _<_}
@@ -96,7 +96,15 @@ one-recursive-loop-less : (t : ℕ) → one-recursive-lts.Need-loop-less (one-re
 one-recursive-loop-less t c = search (walks, needs)
 
 one-recursive-loop-again : (t : ℕ) → one-recursive-lts.Need-loop-again (one-recursive-callees t) (one-recursive-at t) one-recursive.Post one-recursive-Inv-loop one-recursive-μ-loop
-one-recursive-loop-again t c = search (walks, needs)
+one-recursive-loop-again t c =
+    let read = c .before .before .before in
+    let call = c .before .before .before .before .before .before .before in
+    let inv = c .before .before .before .before .before .before .before .before .before .before .loop .inv in (
+      search (walks, needs),
+      search (walks, needs),
+      so-far-next _ _ _ _ _ _ _ _ _ _ _ _ _ (inv .2) (call .one-recursive .ensures) (read .a2 .given .1) (c .rises .ensures) (inv .1),
+      search (walks, needs),
+    )
 
 one-recursive-settle-requires : (t : ℕ) → one-recursive-lts.Need-settle-requires (one-recursive-callees t) (one-recursive-at t) one-recursive.Post one-recursive-Inv-loop one-recursive-μ-loop
 one-recursive-settle-requires t c κs = search (walks, needs)
