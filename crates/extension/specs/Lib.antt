@@ -7,3 +7,4 @@ pub mod Decode
 pub mod IndexEntryOffsetTable
 pub mod EndOfIndexEntry
 pub mod Theorems
+pub mod Marked
