@@ -271,8 +271,12 @@ module _ (s : List ℕ) (c : Cursor) (x : Step) (e : x ≡ stepAt s (c .at .0) (
     pub head-inside : start .0 ≤ length s
     head-inside = omega (arith, meets .body, meets .forward, meets .within, meets .inside)
 
-    head-long : start .0 - c .at .0 ≡ 8
-    head-long = omega (arith, meets .body)
+    -- and so does the body behind it
+    pub body-ordered : c .at .0 ≤ stop .0
+    body-ordered = omega (arith, meets .forward)
+
+    pub body-inside : stop .0 ≤ length s
+    body-inside = omega (arith, meets .within, meets .inside)
 
   module _ (d : Digest) (last : Body) (r : Prior) (inv : leftOver s d last (runAt s (c .at .0) (c .end .0)) ≡ r) (sum : List ℕ) where
     pub prior-done : x ≡ Done → sum ≡ finished d → record { sum = sum; last = last } ≡ r
@@ -377,4 +381,4 @@ module _ (s : List ℕ) where
 
 pub ruleset ends-laws = (sum-room, verified-other, verified-none, verified-is, verified-apart, offset-short, offset-other, offset-size, offset-under, offset-over, offset-is)
 
-pub ruleset priors = (step-less, prior-start, head-ordered, head-inside, prior-done, prior-broken, prior-next)
+pub ruleset priors = (step-less, prior-start, head-ordered, head-inside, body-ordered, body-inside, prior-done, prior-broken, prior-next)

@@ -61,7 +61,10 @@ impl Cursor {
             signature,
             start: FileAt(start),
             stop,
-            next: Cursor { at: stop, end: last },
+            next: Cursor {
+                at: stop,
+                end: last,
+            },
         }
     }
 }
