@@ -16,7 +16,7 @@ use Rattle.sha1.specs.Sha1.{added, compress, hashBlocks, hashAll, initial, padd
 use Rattle.sha1.specs.Pieces.{digestAfter, fed, finished, fedAll}
 use Rattle.sha1.specs.Theorems.{pieces-finish}
 use Rattle.sha1.specs.declared.Digest.{Digest}
-use Rattle.extension.specs.Signatures.{sdir, IEOT, EOIE, header-size}
+use Rattle.extension.specs.Signatures.{sdir, firstByte, IEOT, EOIE, header-size}
 use Rattle.extension.specs.Iter.{onBody, cursor, extensionAt, stepAt, Run, runAt, ofSignature, firstWhere, lastWhere, firstAt}
 use Rattle.extension.specs.Theorems.{Met, met, Tabled, tabled, run-done, run-broken, run-more}
 use Rattle.extension.specs.Decode.{mandatory, forbidden, marks, latest, sparseIn, judged, walkFrom, walkAt}
@@ -133,7 +133,7 @@ mandatory-over b h = let k : 97 ≤ b = omega arith in let l : 122 < b = omega a
 pub mandatory-is : (b : ℕ) → 97 ≤ b → b < 123 → true ≡ mandatory b
 mandatory-is b h k = let l : b ≤ 122 = omega arith in sym (rw (le-leb 97 b h, le-leb b 122 l))
 
-module _ (signature start stop : ℕ) (t : Bool) (e : t ≡ mandatory (signature / 16777216)) where
+module _ (signature start stop : ℕ) (t : Bool) (e : t ≡ mandatory (firstByte signature)) where
   pub forbidden-sdir : t ≡ true → signature ≡ sdir → ltb start stop ≡ forbidden signature start stop
   unfolding forbidden
   forbidden-sdir q w = sym (rw (← e, q, eq-eqb signature sdir w))
