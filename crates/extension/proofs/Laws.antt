@@ -16,7 +16,7 @@ use Rattle.sha1.specs.Sha1.{added, compress, hashBlocks, hashAll, initial, padd
 use Rattle.sha1.specs.Pieces.{digestAfter, fed, finished, fedAll}
 use Rattle.sha1.specs.Theorems.{pieces-finish}
 use Rattle.sha1.specs.declared.Digest.{Digest}
-use Rattle.extension.specs.Signatures.{sdir, IEOT, EOIE, header-size}
+use Rattle.extension.specs.Signatures.{sdir, firstByte, IEOT, EOIE, header-size}
 use Rattle.extension.specs.Iter.{onBody, cursor, extensionAt, stepAt, Run, runAt, ofSignature, firstWhere, lastWhere, firstAt}
 use Rattle.extension.specs.Theorems.{Met, met, Tabled, tabled, run-done, run-broken, run-more}
 use Rattle.extension.specs.Decode.{mandatory, forbidden, marks, latest, sparseIn, judged, walkFrom, walkAt}
@@ -133,7 +133,7 @@ mandatory-over b h = let k : 97 ≤ b = omega arith in let l : 122 < b = omega a
 pub mandatory-is : (b : ℕ) → 97 ≤ b → b < 123 → true ≡ mandatory b
 mandatory-is b h k = let l : b ≤ 122 = omega arith in sym (rw (le-leb 97 b h, le-leb b 122 l))
 
-module _ (signature start stop : ℕ) (t : Bool) (e : t ≡ mandatory (signature / 16777216)) where
+module _ (signature start stop : ℕ) (t : Bool) (e : t ≡ mandatory (firstByte signature)) where
   pub forbidden-sdir : t ≡ true → signature ≡ sdir → ltb start stop ≡ forbidden signature start stop
   unfolding forbidden
   forbidden-sdir q w = sym (rw (← e, q, eq-eqb signature sdir w))
@@ -271,8 +271,12 @@ module _ (s : List ℕ) (c : Cursor) (x : Step) (e : x ≡ stepAt s (c .at .0) (
     pub head-inside : start .0 ≤ length s
     head-inside = omega (arith, meets .body, meets .forward, meets .within, meets .inside)
 
-    head-long : start .0 - c .at .0 ≡ 8
-    head-long = omega (arith, meets .body)
+    -- and so does the body behind it
+    pub body-ordered : c .at .0 ≤ stop .0
+    body-ordered = omega (arith, meets .forward)
+
+    pub body-inside : stop .0 ≤ length s
+    body-inside = omega (arith, meets .within, meets .inside)
 
   module _ (d : Digest) (last : Body) (r : Prior) (inv : leftOver s d last (runAt s (c .at .0) (c .end .0)) ≡ r) (sum : List ℕ) where
     pub prior-done : x ≡ Done → sum ≡ finished d → record { sum = sum; last = last } ≡ r
@@ -377,4 +381,4 @@ module _ (s : List ℕ) where
 
 pub ruleset ends-laws = (sum-room, verified-other, verified-none, verified-is, verified-apart, offset-short, offset-other, offset-size, offset-under, offset-over, offset-is)
 
-pub ruleset priors = (step-less, prior-start, head-ordered, head-inside, prior-done, prior-broken, prior-next)
+pub ruleset priors = (step-less, prior-start, head-ordered, head-inside, body-ordered, body-inside, prior-done, prior-broken, prior-next)

@@ -1,6 +1,6 @@
 -- The space behind the entries (01, "Extensions": "They fill the space from the last entry to the last 20 bytes exactly") and rows 7 and 8 of "When the desk says no".
 -- Assumes nothing.
-use Prim.Native.Nat.{ℕ, _/_}
+use Prim.Native.Nat.{ℕ}
 use mathlib.Core.Bool.{Bool, true, false}
 use mathlib.Core.List.{List, [], _∷_}
 use lib.Dec.{ltb, leb, eqb}
@@ -8,7 +8,7 @@ use Rattle.laws.specs.Pick.{pick}
 use Rattle.wire.specs.Places.{fileAt}
 use Rattle.wire.specs.declared.FileAt.{FileAt}
 use Rattle.refusal.specs.Refusal as refusal
-use Rattle.extension.specs.Signatures.{sdir}
+use Rattle.extension.specs.Signatures.{sdir, firstByte}
 use Rattle.extension.specs.Iter.{Found, Ending, filled, stray, Run, runAt, ofSignature, lastWhere}
 use Rattle.extension.specs.declared.iter.Body.{Body}
 use Rattle.extension.specs.declared.iter.Body.the-variants.{Lies, Missing}
@@ -21,7 +21,7 @@ mandatory first = pick (leb 97 first) (leb first 122) false
 
 -- what makes a reader stop: a mandatory extension that is no empty `sdir`
 unfoldable pub forbidden : ℕ → ℕ → ℕ → Bool
-forbidden signature start stop = pick (mandatory (signature / 16777216)) (pick (eqb signature sdir) (ltb start stop) true) false
+forbidden signature start stop = pick (mandatory (firstByte signature)) (pick (eqb signature sdir) (ltb start stop) true) false
 
 abbrev pub isForbidden : Found → Bool
 isForbidden f = forbidden (f .signature) (f .start .0) (f .stop .0)

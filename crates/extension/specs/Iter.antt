@@ -84,14 +84,14 @@ onBody Missing none some = none
 abbrev pub ofSignature : ℕ → Found → Bool
 ofSignature wanted f = eqb (f .signature) wanted
 
-unfoldable pub firstWhere : (Found → Bool) → List Found → Body
-firstWhere p [] = Missing
-firstWhere p (f ∷ fs) = pick (p f) (bodyOf f) (firstWhere p fs)
-
 -- the last of some kind, or what was the last before
 unfoldable pub lastWhere : (Found → Bool) → Body → List Found → Body
 lastWhere p b [] = b
 lastWhere p b (f ∷ fs) = lastWhere p (pick (p f) (bodyOf f) b) fs
+
+unfoldable pub firstWhere : (Found → Bool) → List Found → Body
+firstWhere p [] = Missing
+firstWhere p (f ∷ fs) = pick (p f) (bodyOf f) (firstWhere p fs)
 
 -- the last extension of a signature
 abbrev pub lastOf : ℕ → List Found → Body

@@ -7,3 +7,5 @@ pub mod Decode
 pub mod IndexEntryOffsetTable
 pub mod EndOfIndexEntry
 pub mod Theorems
+pub mod Filling
+pub mod Marked

@@ -1,6 +1,6 @@
--- Numbers of the format that extensions have: signatures, each as one big-endian number, and how long a header is (gitformat-index, "Extensions"; 01, "Extensions").
+-- Numbers of the format that extensions have: signatures, each as one big-endian number, and how long an extension's header and the file's trailer are (gitformat-index, "Extensions"; 01, "Extensions").
 -- Assumes nothing.
-use Prim.Native.Nat.{ℕ}
+use Prim.Native.Nat.{ℕ, _/_}
 
 -- "TREE"
 abbrev pub TREE : ℕ
@@ -21,3 +21,11 @@ EOIE = 1162824005
 -- 4 signature bytes and 4 of a size
 abbrev pub header-size : ℕ
 header-size = 8
+
+-- a signature's first byte
+abbrev pub firstByte : ℕ → ℕ
+firstByte signature = signature / 16777216
+
+-- the trailer is an id of SHA-1
+abbrev pub trailer-size : ℕ
+trailer-size = 20

@@ -160,3 +160,81 @@ tabled s start stop n e = by (subst (IsTable s start stop) e (table? s start sto
   where
     by : IsTable s start stop (Pairs n) → Tabled s start stop n
     by (is-table f) = f
+
+-- ---- a run is the chain of extensions from a place on, and only that
+
+-- an extension that stands at `at` and ends at or before `end`
+pub record Stands (s : List ℕ) (at end : ℕ) (f : Found) : Type 0 where
+  pub fits : Fits s at end
+  pub begins : f .place ≡ at
+  pub named : f .signature ≡ beAt 4 s at
+  pub starts : f .start ≡ fileAt (at + header-size)
+  pub stops : f .stop ≡ fileAt (at + header-size + beAt 4 s (at + 4))
+
+-- extensions one behind the other from `at` on: they fill the part up to `end`, or at some place before it none stands
+pub data Chain (s : List ℕ) (end : ℕ) : ℕ → List Found → Ending → Type 0 where
+  chain-filled : {at : ℕ} → end ≤ length s → at ≡ end → Chain s end at [] filled
+  chain-stray : {at : ℕ} → (end ≤ length s → at ≡ end → ⊥) → (Fits s at end → ⊥) → Chain s end at [] (stray at)
+  chain-more : {at : ℕ} {f : Found} {fs : List Found} {e : Ending} → Stands s at end f → Chain s end (f .stop .0) fs e → Chain s end at (f ∷ fs) e
+
+stands : (s : List ℕ) (at end signature : ℕ) (start stop : FileAt) (next : Cursor) → Met s at end signature start stop next → Stands s at end (foundAt at signature start stop)
+stands s at end signature start stop next m =
+    record {
+      fits = record { inside = m .inside; whole = omega (arith, m .within, m .long) };
+      begins = refl;
+      named = m .named;
+      starts = ap fileAt (m .body);
+      stops = ap fileAt (m .long);
+    }
+
+run-by-chain : (n : ℕ) (s : List ℕ) (at end : ℕ) → end - at < n → Chain s end at (runBy n s at end .items) (runBy n s at end .ending)
+unfolding runBy
+run-by-chain zero s at end h = absurd (omega arith)
+run-by-chain (suc n) s at end h = by (λ p l. run-by-chain n s p end l) (step? s at end)
+  where
+    by : ((p : ℕ) → end - p < n → Chain s end p (runBy n s p end .items) (runBy n s p end .ending)) → {x : Step} → IsStep s at end x
+        → Chain s end at (onStep x (ended filled) (ended (stray at)) (λ signature start stop. cons (foundAt at signature start stop) (runBy n s (stop .0) end)) .items)
+        (onStep x (ended filled) (ended (stray at)) (λ signature start stop. cons (foundAt at signature start stop) (runBy n s (stop .0) end)) .ending)
+    by ih (is-done i e) = chain-filled i e
+    by ih (is-broken d f) = chain-stray d f
+    by ih (is-extension {signature = signature} {start = start} {stop = stop} {next = next} m) =
+        chain-more (stands s at end signature start stop next m) (ih (stop .0) (omega (arith, m .forward, m .within)))
+
+pub run-chain : (s : List ℕ) (at end : ℕ) → Chain s end at (runAt s at end .items) (runAt s at end .ending)
+unfolding runAt
+run-chain s at end = run-by-chain (suc (end - at)) s at end (omega arith)
+
+-- what a step answers where something is known to stand
+step-fits : (s : List ℕ) (at end : ℕ) → Fits s at end → stepAt s at end ≡ extensionAt at end (beAt 4 s at) (beAt 4 s (at + 4))
+step-fits s at end f = by (step? s at end)
+  where
+    by : {x : Step} → IsStep s at end x → x ≡ extensionAt at end (beAt 4 s at) (beAt 4 s (at + 4))
+    by (is-done i e) = absurd (omega (arith, f .whole))
+    by (is-broken d g) = absurd (g f)
+    by (is-extension m) = λ k. Extension (m .named k) (fileAt (m .body k)) (fileAt (m .long k)) (cursor ((m .place ∙ m .long) k) (m .bound k))
+
+step-filled : (s : List ℕ) (at end : ℕ) → end ≤ length s → at ≡ end → stepAt s at end ≡ Done
+step-filled s at end i e = by (step? s at end)
+  where
+    by : {x : Step} → IsStep s at end x → x ≡ Done
+    by (is-done j q) = refl
+    by (is-broken d g) = absurd (d i e)
+    by (is-extension m) = absurd (omega (arith, m .forward, m .within))
+
+step-stray : (s : List ℕ) (at end : ℕ) → (end ≤ length s → at ≡ end → ⊥) → (Fits s at end → ⊥) → stepAt s at end ≡ Broken
+step-stray s at end d f = by (step? s at end)
+  where
+    by : {x : Step} → IsStep s at end x → x ≡ Broken
+    by (is-done i e) = absurd (d i e)
+    by (is-broken e g) = refl
+    by (is-extension m) = absurd (f (record { inside = m .inside; whole = omega (arith, m .within, m .long) }))
+
+pub chain-run : {s : List ℕ} {end at : ℕ} {fs : List Found} {e : Ending} → Chain s end at fs e → runAt s at end ≡ record { items = fs; ending = e }
+chain-run {s} {end} {at} (chain-filled i q) = run-done s at end (step-filled s at end i q)
+chain-run {s} {end} {at} (chain-stray d f) = run-broken s at end (step-stray s at end d f)
+chain-run {s} {end} {at} (chain-more {f = f} {fs = fs} {e = e} w c) =
+    let i : runAt s (f .stop .0) end ≡ record { items = fs; ending = e } = chain-run c in
+    let p : at + header-size + beAt 4 s (at + 4) ≡ f .stop .0 = sym (ap (λ (x : FileAt). x .0) (w .stops)) in
+    run-more s at end (step-fits s at end (w .fits))
+    ∙ (λ k. cons (record { signature = sym (w .named) k; place = sym (w .begins) k; start = sym (w .starts) k; stop = sym (w .stops) k }) (runAt s (p k) end))
+    ∙ ap (cons f) i

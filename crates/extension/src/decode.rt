@@ -1,7 +1,7 @@
 // All extensions of a file: they fill the space behind the entries exactly, and none is there that must be understood and is not.
 ghost use mathlib.Core.Path.{_≡_};
-ghost use Prim.Native.Nat.{_/_};
 ghost use Rattle.extension.specs.Decode.{mandatory, forbidden, marks, latest, walkAt};
+use crate::FIRST_BYTE;
 use crate::SDIR;
 use crate::iter::Body;
 use crate::iter::Cursor;
@@ -30,7 +30,7 @@ fn is_mandatory(first: u8) -> bool
 fn is_forbidden(signature: u32, start: FileAt, stop: FileAt) -> bool
     ensures { λ r. ⌜ r ≡ forbidden signature (start .0) (stop .0) ⌝ }
 {
-    let first = (signature / 16777216) as u8;
+    let first = (signature / FIRST_BYTE) as u8;
     if is_mandatory(first) {
         if signature == SDIR {
             return start.0 < stop.0;

@@ -3,7 +3,8 @@ ghost use mathlib.Core.Path.{_≡_};
 ghost use Prim.Native.Nat.{_+_, _≤_};
 ghost use lib.ListN.{length};
 ghost use Rattle.sha1.specs.Sha1.{sha1};
-ghost use Rattle.extension.specs.EndOfIndexEntry.{priorAt, verifiedAt, offsetIn};
+ghost use Rattle.extension.specs.Signatures.{trailer-size};
+ghost use Rattle.extension.specs.EndOfIndexEntry.{whole-size, priorAt, verifiedAt, offsetIn};
 use crate::EOIE;
 use crate::TRAILER;
 use crate::iter::Body;
@@ -73,8 +74,8 @@ fn summed(file: &[u8], from: FileAt, end: FileAt) -> Prior
 
 // The offset, if its extensions have the hash that EOIE, which begins at `start`, has of them, and the last of them ends where EOIE begins.
 fn verified(file: &[u8], offset: usize, start: usize) -> Told
-    requires { ⌜ start + 32 ≤ length (now file) ⌝ }
-    ensures { λ r. ⌜ r ≡ verifiedAt 20 sha1 (now (file .entry)) start offset ⌝ }
+    requires { ⌜ start + whole-size trailer-size ≤ length (now file) ⌝ }
+    ensures { λ r. ⌜ r ≡ verifiedAt trailer-size sha1 (now (file .entry)) start offset ⌝ }
 {
     let p = summed(file, FileAt(offset), FileAt(start));
     let sum = p.sum;
@@ -97,7 +98,7 @@ fn verified(file: &[u8], offset: usize, start: usize) -> Told
 
 // The offset that the EOIE in front of a file's trailer tells.
 pub fn decode(file: &[u8]) -> Told
-    ensures { λ r. ⌜ r ≡ offsetIn 20 sha1 (now (file .entry)) ⌝ }
+    ensures { λ r. ⌜ r ≡ offsetIn trailer-size sha1 (now (file .entry)) ⌝ }
 {
     if file.len() < MIN_SIZE_WITH_HEADER + TRAILER {
         return Told::Nothing;

@@ -14,6 +14,9 @@ pub const IEOT: u32 = 0x4945_4f54;
 
 pub const EOIE: u32 = 0x454f_4945;
 
+// A signature divided by this is its first byte.
+pub const FIRST_BYTE: u32 = 0x100_0000;
+
 // What stands before an extension's body: signature and size.
 pub const HEADER: usize = 8;
 

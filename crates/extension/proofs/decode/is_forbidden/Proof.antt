@@ -1,10 +1,8 @@
+-- `extension::decode::is_forbidden` meets its contract: each way out is one law. Assumes nothing.
 use Rattle.extension.proofs.Laws.{walks}
 use borrow.Author.Needs.{needs}
 use Rattle.extension.proofs.decode.is_forbidden.Statement.{statement}
 use Rattle.extension.proofs.decode.is_forbidden.Tie as tie
-use Rattle.extension.proofs.decode.is_forbidden.Reads as reads
-use Rattle.extension.proofs.decode.is_forbidden.Lts as lts
-use Rattle.extension.proofs.decode.is_mandatory.Reads as is-mandatory-reads
 
 cast-first : tie.Need-cast-first
 cast-first c = search (walks, needs)

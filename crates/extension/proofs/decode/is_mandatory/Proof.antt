@@ -1,9 +1,8 @@
+-- `extension::decode::is_mandatory` meets its contract: each range of the match is one law. Assumes nothing.
 use borrow.Author.Needs.{needs}
 use Rattle.extension.proofs.Laws.{walks}
 use Rattle.extension.proofs.decode.is_mandatory.Statement.{statement}
 use Rattle.extension.proofs.decode.is_mandatory.Tie as tie
-use Rattle.extension.proofs.decode.is_mandatory.Reads as reads
-use Rattle.extension.proofs.decode.is_mandatory.Lts as lts
 
 returns : tie.Need-returns
 returns c = search (walks, needs)

@@ -1,9 +1,8 @@
+-- `extension::decode::later` meets its contract. Assumes nothing.
 use borrow.Author.Needs.{needs}
 use Rattle.extension.proofs.Laws.{walks}
 use Rattle.extension.proofs.decode.later.Statement.{statement}
 use Rattle.extension.proofs.decode.later.Tie as tie
-use Rattle.extension.proofs.decode.later.Reads as reads
-use Rattle.extension.proofs.decode.later.Lts as lts
 
 returns : tie.Need-returns
 returns c = search (walks, needs)

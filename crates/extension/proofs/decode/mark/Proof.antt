@@ -1,9 +1,8 @@
+-- `extension::decode::mark` meets its contract. Assumes nothing.
 use borrow.Author.Needs.{needs}
 use Rattle.extension.proofs.Laws.{walks}
 use Rattle.extension.proofs.decode.mark.Statement.{statement}
 use Rattle.extension.proofs.decode.mark.Tie as tie
-use Rattle.extension.proofs.decode.mark.Reads as reads
-use Rattle.extension.proofs.decode.mark.Lts as lts
 
 returns : tie.Need-returns
 returns c = search (walks, needs)

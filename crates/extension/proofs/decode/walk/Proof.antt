@@ -1,3 +1,4 @@
+-- `extension::decode::walk` meets its contract. The invariant: what is left to walk, after the mark and the last body so far, comes to what the whole does; the measure is what is left of the space. Assumes nothing.
 use Prim.Native.Nat.{_-_}
 use mathlib.Core.Path.{_≡_}
 use Rattle.extension.specs.Iter.{runAt}
@@ -6,12 +7,6 @@ use borrow.Author.Needs.{needs}
 use Rattle.extension.proofs.Laws.{walks}
 use Rattle.extension.proofs.decode.walk.Statement.{statement}
 use Rattle.extension.proofs.decode.walk.Tie as tie
-use Rattle.extension.proofs.decode.walk.Reads as reads
-use Rattle.extension.proofs.decode.walk.Lts as lts
-use Rattle.extension.proofs.decode.is_forbidden.Reads as is-forbidden-reads
-use Rattle.extension.proofs.decode.later.Reads as later-reads
-use Rattle.extension.proofs.decode.mark.Reads as mark-reads
-use Rattle.extension.proofs.iter.Cursor.step.Reads as step-reads
 
 abbrev Inv-loop : tie.InvT-loop
 Inv-loop file wanted here₀ sparse₀ last₀ here sparse last = walkFrom wanted sparse last (runAt file (here .at .0) (here .end .0)) ≡ walkAt file (here₀ .at .0) (here₀ .end .0) wanted

@@ -1,11 +1,8 @@
+-- `extension::end_of_index_entry::decode` meets its contract: each way out is one law. Assumes nothing.
 use Rattle.extension.proofs.Laws.{ends-laws}
 use borrow.Author.Needs.{needs}
 use Rattle.extension.proofs.end_of_index_entry.decode.Statement.{statement}
 use Rattle.extension.proofs.end_of_index_entry.decode.Tie as tie
-use Rattle.extension.proofs.end_of_index_entry.decode.Reads as reads
-use Rattle.extension.proofs.end_of_index_entry.decode.Lts as lts
-use Rattle.extension.proofs.end_of_index_entry.verified.Reads as verified-reads
-use Rattle.wire.proofs.be32.Reads as be32-reads
 
 add-if1 : tie.Need-add-if1
 add-if1 c = search (ends-laws, needs)

@@ -1,3 +1,4 @@
+-- `extension::end_of_index_entry::summed` meets its contract. The invariant: the headers that are left, fed to the digest so far, and the last body so far come to what all extensions do; the measure is what is left to walk. Assumes nothing.
 use Prim.Native.Nat.{_-_}
 use mathlib.Core.Path.{_≡_}
 use Rattle.extension.specs.Iter.{runAt}
@@ -6,12 +7,6 @@ use borrow.Author.Needs.{needs}
 use Rattle.extension.proofs.Laws.{priors, leftOver}
 use Rattle.extension.proofs.end_of_index_entry.summed.Statement.{statement}
 use Rattle.extension.proofs.end_of_index_entry.summed.Tie as tie
-use Rattle.extension.proofs.end_of_index_entry.summed.Reads as reads
-use Rattle.extension.proofs.end_of_index_entry.summed.Lts as lts
-use Rattle.extension.proofs.iter.Cursor.step.Reads as step-reads
-use Rattle.sha1.proofs.Digest.feed.Reads as feed-reads
-use Rattle.sha1.proofs.Digest.finish.Reads as finish-reads
-use Rattle.sha1.proofs.Digest.new.Reads as new-reads
 
 abbrev Inv-loop : tie.InvT-loop
 Inv-loop file here₀ digest₀ last₀ here digest last = leftOver file digest last (runAt file (here .at .0) (here .end .0)) ≡ priorAt file (here₀ .at .0) (here₀ .end .0)

@@ -1,11 +1,8 @@
+-- `extension::end_of_index_entry::verified` meets its contract. The hash has twenty bytes (`sum-room`). Assumes nothing.
 use Rattle.extension.proofs.Laws.{ends-laws}
 use borrow.Author.Needs.{needs}
 use Rattle.extension.proofs.end_of_index_entry.verified.Statement.{statement}
 use Rattle.extension.proofs.end_of_index_entry.verified.Tie as tie
-use Rattle.extension.proofs.end_of_index_entry.verified.Reads as reads
-use Rattle.extension.proofs.end_of_index_entry.verified.Lts as lts
-use Rattle.extension.proofs.end_of_index_entry.summed.Reads as summed-reads
-use Rattle.slices.proofs.same.Reads as same-reads
 
 summed-requires : tie.Need-summed-requires
 summed-requires c κs = search (ends-laws, needs)

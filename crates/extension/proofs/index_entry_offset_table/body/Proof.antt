@@ -1,10 +1,8 @@
+-- `extension::index_entry_offset_table::body` meets its contract. Assumes nothing.
 use Rattle.extension.proofs.Laws.{tables}
 use borrow.Author.Needs.{needs}
 use Rattle.extension.proofs.index_entry_offset_table.body.Statement.{statement}
 use Rattle.extension.proofs.index_entry_offset_table.body.Tie as tie
-use Rattle.extension.proofs.index_entry_offset_table.body.Reads as reads
-use Rattle.extension.proofs.index_entry_offset_table.body.Lts as lts
-use Rattle.extension.proofs.iter.first_of.Reads as first-of-reads
 
 returns : tie.Need-returns
 returns c = search (tables, needs)

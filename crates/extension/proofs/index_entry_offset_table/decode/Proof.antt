@@ -1,10 +1,8 @@
+-- `extension::index_entry_offset_table::decode` meets its contract: each way out is one law. Assumes nothing.
 use Rattle.extension.proofs.Laws.{tables}
 use borrow.Author.Needs.{needs}
 use Rattle.extension.proofs.index_entry_offset_table.decode.Statement.{statement}
 use Rattle.extension.proofs.index_entry_offset_table.decode.Tie as tie
-use Rattle.extension.proofs.index_entry_offset_table.decode.Reads as reads
-use Rattle.extension.proofs.index_entry_offset_table.decode.Lts as lts
-use Rattle.wire.proofs.be32.Reads as be32-reads
 
 returns : tie.Need-returns
 returns c = search (tables, needs)

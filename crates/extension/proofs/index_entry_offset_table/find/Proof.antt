@@ -1,11 +1,8 @@
+-- `extension::index_entry_offset_table::find` meets its contract. Assumes nothing.
 use Rattle.extension.proofs.Laws.{tables}
 use borrow.Author.Needs.{needs}
 use Rattle.extension.proofs.index_entry_offset_table.find.Statement.{statement}
 use Rattle.extension.proofs.index_entry_offset_table.find.Tie as tie
-use Rattle.extension.proofs.index_entry_offset_table.find.Reads as reads
-use Rattle.extension.proofs.index_entry_offset_table.find.Lts as lts
-use Rattle.extension.proofs.index_entry_offset_table.body.Reads as body-reads
-use Rattle.extension.proofs.index_entry_offset_table.decode.Reads as decode-reads
 
 body-requires : tie.Need-body-requires
 body-requires c κs = search (tables, needs)

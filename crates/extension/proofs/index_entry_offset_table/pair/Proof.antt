@@ -1,11 +1,8 @@
+-- `extension::index_entry_offset_table::pair` meets its contract. Assumes nothing.
 use Rattle.extension.proofs.Laws.{tables}
 use borrow.Author.Needs.{needs}
 use Rattle.extension.proofs.index_entry_offset_table.pair.Statement.{statement}
 use Rattle.extension.proofs.index_entry_offset_table.pair.Tie as tie
-use Rattle.extension.proofs.index_entry_offset_table.pair.Reads as reads
-use Rattle.extension.proofs.index_entry_offset_table.pair.Lts as lts
-use Rattle.extension.proofs.index_entry_offset_table.body.Reads as body-reads
-use Rattle.extension.proofs.index_entry_offset_table.pair_at.Reads as pair-at-reads
 
 body-requires : tie.Need-body-requires
 body-requires c κs = search (tables, needs)

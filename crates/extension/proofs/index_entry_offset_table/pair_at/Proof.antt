@@ -1,12 +1,9 @@
+-- `extension::index_entry_offset_table::pair_at` meets its contract. A pair before the last lies in the table, and so in the file (`pair-inside`). Assumes nothing.
 use native.Mathlib.Omega.{arith}
 use Rattle.extension.proofs.Laws.{tables, pair-inside}
 use borrow.Author.Needs.{needs}
 use Rattle.extension.proofs.index_entry_offset_table.pair_at.Statement.{statement}
 use Rattle.extension.proofs.index_entry_offset_table.pair_at.Tie as tie
-use Rattle.extension.proofs.index_entry_offset_table.pair_at.Reads as reads
-use Rattle.extension.proofs.index_entry_offset_table.pair_at.Lts as lts
-use Rattle.extension.proofs.index_entry_offset_table.decode.Reads as decode-reads
-use Rattle.wire.proofs.be32.Reads as be32-reads
 
 decode-requires : tie.Need-decode-requires
 decode-requires c κs = search (tables, needs)

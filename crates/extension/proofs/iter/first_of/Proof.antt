@@ -1,3 +1,4 @@
+-- `extension::iter::first_of` meets its contract. The invariant: the first from the present cursor on is the first of all; the measure is what is left to walk. Assumes nothing.
 use Prim.Native.Nat.{_-_}
 use mathlib.Core.Path.{_≡_}
 use Rattle.extension.specs.Iter.{firstAt}
@@ -5,9 +6,6 @@ use borrow.Author.Needs.{needs}
 use Rattle.extension.proofs.Laws.{firsts}
 use Rattle.extension.proofs.iter.first_of.Statement.{statement}
 use Rattle.extension.proofs.iter.first_of.Tie as tie
-use Rattle.extension.proofs.iter.first_of.Reads as reads
-use Rattle.extension.proofs.iter.first_of.Lts as lts
-use Rattle.extension.proofs.iter.Cursor.step.Reads as step-reads
 
 abbrev Inv-loop : tie.InvT-loop
 Inv-loop file wanted here₀ here = firstAt file (here .at .0) (here .end .0) wanted ≡ firstAt file (here₀ .at .0) (here₀ .end .0) wanted

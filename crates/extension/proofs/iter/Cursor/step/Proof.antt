@@ -1,10 +1,8 @@
+-- `extension::iter::Cursor::step` meets its contract: each way out is one law. Assumes nothing.
 use Rattle.extension.proofs.Laws.{steps}
 use borrow.Author.Needs.{needs}
 use Rattle.extension.proofs.iter.Cursor.step.Statement.{statement}
 use Rattle.extension.proofs.iter.Cursor.step.Tie as tie
-use Rattle.extension.proofs.iter.Cursor.step.Reads as reads
-use Rattle.extension.proofs.iter.Cursor.step.Lts as lts
-use Rattle.wire.proofs.be32.Reads as be32-reads
 
 returns : tie.Need-returns
 returns c = search (steps, needs)
