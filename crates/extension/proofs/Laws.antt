@@ -6,7 +6,7 @@ use Prim.Native.Nat.{ℕ, zero, suc, _+_, _-_, _*_, _/_, _%_, _≤_, _<_}
 use native.Mathlib.Omega.{arith}
 use lib.ListN.{length, take, drop, length-append}
 use lib.Seq.{take-all}
-use lib.Dec.{ltb, leb, eqb}
+use lib.Dec.{ltb}
 use borrow.Author.Tests.{lt-ltb, le-ltb, le-leb, lt-leb, eq-eqb, ne-eqb}
 use Rattle.wire.specs.BigEndian.{beAt, bytesOf, length-bytes}
 use Rattle.wire.specs.Places.{fileAt}
@@ -16,11 +16,11 @@ use Rattle.sha1.specs.Sha1.{added, compress, hashBlocks, hashAll, initial, padd
 use Rattle.sha1.specs.Pieces.{digestAfter, fed, finished, fedAll}
 use Rattle.sha1.specs.Theorems.{pieces-finish}
 use Rattle.sha1.specs.declared.Digest.{Digest}
-use Rattle.extension.specs.Signatures.{sdir, firstByte, IEOT, EOIE, header-size}
-use Rattle.extension.specs.Iter.{onBody, cursor, extensionAt, stepAt, Run, runAt, ofSignature, firstWhere, lastWhere, firstAt}
+use Rattle.extension.specs.Signatures.{sdir, firstByte, IEOT, EOIE}
+use Rattle.extension.specs.Iter.{extensionAt, stepAt, Run, runAt, firstWhere, lastWhere, firstAt}
 use Rattle.extension.specs.Theorems.{Met, met, Tabled, tabled, run-done, run-broken, run-more}
-use Rattle.extension.specs.Decode.{mandatory, forbidden, marks, latest, sparseIn, judged, walkFrom, walkAt}
-use Rattle.extension.specs.IndexEntryOffsetTable.{tableAt, pairsIn, onTable, pairIn, tableIn, tableFrom, pairFrom}
+use Rattle.extension.specs.Decode.{mandatory, forbidden, marks, latest, sparseIn, judged, walkFrom}
+use Rattle.extension.specs.IndexEntryOffsetTable.{tableAt, pairIn, tableIn, tableFrom, pairFrom}
 use Rattle.extension.specs.EndOfIndexEntry.{headersOf, lastBody, priorAt, verifiedAt, offsetAt, offsetIn}
 use Rattle.extension.specs.declared.end_of_index_entry.Prior.{Prior}
 use Rattle.extension.specs.declared.end_of_index_entry.Told.{Told}

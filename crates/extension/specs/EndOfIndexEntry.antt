@@ -1,7 +1,7 @@
 -- EOIE (gitformat-index, "End of Index Entry"; 01, "Extensions": "the 32 bytes before the trailer: signature, size 24, offset, SHA-1 of the signatures and sizes of the
 -- extensions from that offset"). h is the id's length, which is the hash's and the trailer's, and `hash` the hash. Assumes nothing.
 use Prim.Native.Nat.{ℕ, _+_, _-_}
-use mathlib.Core.Bool.{Bool, true, false}
+use mathlib.Core.Bool.{true}
 use mathlib.Core.List.{List, [], _∷_, flatten}
 use lib.ListN.{length, take, drop}
 use lib.Dec.{ltb, eqb}

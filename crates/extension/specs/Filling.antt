@@ -3,20 +3,21 @@
 use Prim.Native.Nat.{ℕ, _+_, _≤_, _<_}
 use mathlib.Core.Bool.{Bool, true, false}
 use mathlib.Core.List.{List, [], _∷_}
-use mathlib.Core.Path.{_≡_, refl, sym, ap, subst, _∙_}
+use mathlib.Core.Path.{_≡_, refl, ap, subst}
 use mathlib.Core.Logic.{⊎-elim}
 use native.Mathlib.Omega.{arith}
 use lib.ListN.{length}
 use lib.Dec.{eqb}
+use borrow.Author.Tests.{eq-eqb, ne-eqb}
 use Rattle.laws.specs.Pick.{pick}
 use Rattle.laws.specs.Tests.{Same, same, differs, same?, lt-or-ge}
 use Rattle.wire.specs.BigEndian.{beAt}
 use Rattle.wire.specs.Places.{fileAt}
 use Rattle.wire.specs.declared.FileAt.{FileAt}
 use Rattle.extension.specs.Signatures.{sdir, header-size}
-use Rattle.extension.specs.Iter.{Found, Ending, filled, stray, Run, runAt, bodyOf, ofSignature, lastWhere, lastOf}
+use Rattle.extension.specs.Iter.{Found, Ending, filled, stray, runAt, bodyOf, ofSignature, lastWhere, lastOf}
 use Rattle.extension.specs.Decode.{isForbidden, marks, sparseIn, judged, walkAt}
-use Rattle.extension.specs.Theorems.{Fits, Stands, Chain, chain-filled, chain-stray, chain-more, run-chain}
+use Rattle.extension.specs.Theorems.{Chain, chain-stray, chain-more, run-chain, chain-run}
 use Rattle.extension.specs.declared.iter.Body.{Body}
 use Rattle.extension.specs.declared.iter.Body.the-variants.{Missing}
 use Rattle.extension.specs.declared.decode.Walked.{Walked}
@@ -138,6 +139,58 @@ walk-says s from end wanted =
     by fs c (no-fault n) = is-filled c n (sparse-says false fs) (last-says wanted Missing fs)
     by fs c (fault-7 n) = is-not-filled c n
     by fs c (fault-8 n) = is-mandatory c n
+
+-- ---- and no other answer could be said
+
+none-last : {wanted : ℕ} {fs : List Found} (b : Body) → NoneSigned wanted fs → lastWhere (ofSignature wanted) b fs ≡ b
+unfolding lastWhere
+none-last b none-left = refl
+none-last {wanted} b (another {f = f} d n) = rw (ne-eqb (f .signature) wanted d) (none-last b n)
+
+signed-last : {wanted : ℕ} {fs : List Found} {f : Found} (b : Body) → LastSigned wanted fs f → lastWhere (ofSignature wanted) b fs ≡ bodyOf f
+unfolding lastWhere
+signed-last {wanted} {f = f} b (this e n) = rw (eq-eqb (f .signature) wanted e) (none-last (bodyOf f) n)
+signed-last {wanted} b (further {g = g} l) = signed-last (pick (eqb (g .signature) wanted) (bodyOf g) b) l
+
+pub last-only : {wanted : ℕ} {b c : Body} {fs : List Found} → SaysLast wanted b fs c → lastWhere (ofSignature wanted) b fs ≡ c
+last-only {b = b} (as-before n) = none-last b n
+last-only {b = b} (the-last l) = signed-last b l
+
+none-sparse : {fs : List Found} (b : Bool) → NoneSigned sdir fs → sparseIn b fs ≡ b
+unfolding sparseIn
+none-sparse b none-left = refl
+none-sparse b (another {f = f} d n) = rw (ne-eqb (f .signature) sdir d) (none-sparse b n)
+
+signed-sparse : {fs : List Found} {f : Found} (b : Bool) → LastSigned sdir fs f → sparseIn b fs ≡ true
+unfolding sparseIn
+signed-sparse {f = f} b (this e n) = rw (eq-eqb (f .signature) sdir e) (none-sparse true n)
+signed-sparse b (further {g = g} l) = signed-sparse (marks (g .signature) b) l
+
+pub sparse-only : {b c : Bool} {fs : List Found} → SaysSparse b fs c → sparseIn b fs ≡ c
+sparse-only {b} (marked l) = signed-sparse b l
+sparse-only {b} (unmarked n) = none-sparse b n
+
+judged-none : {fs : List Found} (good : Walked) → NoneForbidden fs → judged fs filled good ≡ good
+unfolding judged
+judged-none good all-allowed = refl
+judged-none good (allowed q n) = rw q (judged-none good n)
+
+judged-stops : {fs : List Found} (place : ℕ) (good : Walked) → NoneForbidden fs → judged fs (stray place) good ≡ NotFilled (fileAt place)
+unfolding judged
+judged-stops place good all-allowed = refl
+judged-stops place good (allowed q n) = rw q (judged-stops place good n)
+
+judged-first : {fs : List Found} {signature : ℕ} (e : Ending) (good : Walked) → FirstForbidden fs signature → judged fs e good ≡ Mandatory signature
+unfolding judged
+judged-first e good (refused-here q) = rw q
+judged-first e good (refused-later q n) = rw q (judged-first e good n)
+
+pub walk-only : {s : List ℕ} {from end wanted : ℕ} {w : Walked} → SaysWalk s from end wanted w → walkAt s from end wanted ≡ w
+unfolding walkAt
+walk-only {wanted = wanted} (is-filled {fs = fs} {sparse = sparse} {body = body} c n m l) =
+    rw (chain-run c, judged-none (Filled (sparseIn false fs) (lastOf wanted fs)) n, sparse-only m, last-only l)
+walk-only {wanted = wanted} (is-not-filled {fs = fs} {place = place} c n) = rw (chain-run c, judged-stops place (Filled (sparseIn false fs) (lastOf wanted fs)) n)
+walk-only {wanted = wanted} (is-mandatory {fs = fs} {e = e} c n) = rw (chain-run c, judged-first e (Filled (sparseIn false fs) (lastOf wanted fs)) n)
 
 -- success means that the space is exactly filled
 pub walk-fills : (s : List ℕ) (from end wanted : ℕ) (sparse : Bool) (body : Body) → walkAt s from end wanted ≡ Filled sparse body → (fs : List Found) × Chain s end from fs filled × NoneForbidden fs

@@ -1,7 +1,6 @@
 -- IEOT (01, "Extensions": "version 1, then one or more 8-byte pairs, nothing over; otherwise none. Only the first IEOT counts"). h is the id's length, which is the
 -- trailer's. Assumes nothing.
 use Prim.Native.Nat.{ℕ, _+_, _-_, _*_, _/_, _%_}
-use mathlib.Core.Bool.{Bool, true, false}
 use mathlib.Core.List.{List}
 use lib.ListN.{length}
 use lib.Dec.{ltb, leb, eqb}

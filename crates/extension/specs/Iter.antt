@@ -1,7 +1,7 @@
 -- Extensions one behind the other in a part of the file (01, "Modules in port order" 1: "an extension is a 4-byte signature, a big-endian 32-bit size, then that many
 -- bytes"): what stands at a place, and all that are found from a place on, with how the run ends. Assumes nothing.
 use Prim.Native.Nat.{ℕ, zero, suc, _+_, _-_}
-use mathlib.Core.Bool.{Bool, true, false}
+use mathlib.Core.Bool.{Bool}
 use mathlib.Core.List.{List, [], _∷_}
 use lib.ListN.{length}
 use lib.Dec.{ltb, eqb}

@@ -1,6 +1,6 @@
 -- Worked examples, as antt computes them: what fills the space and what does not, which extension is refused, IEOT's pairs and EOIE's offset. Assumes nothing.
 use Prim.Native.Nat.{ℕ, _-_}
-use mathlib.Core.Bool.{Bool, true, false}
+use mathlib.Core.Bool.{true, false}
 use mathlib.Core.List.{List, [], _∷_, _++_, flatten}
 use mathlib.Core.Path.{_≡_, refl}
 use lib.ListN.{length, replicate}

@@ -1,6 +1,6 @@
 -- What holds of a walk: what each answer of a step says, and a run of extensions a step at a time, whatever the fuel. Assumes nothing.
 use Prim.Native.Nat.{ℕ, zero, suc, _+_, _-_, _*_, _/_, _%_, _≤_, _<_}
-use mathlib.Core.Bool.{Bool, true, false}
+use mathlib.Core.Bool.{Bool}
 use mathlib.Core.List.{List, [], _∷_}
 use mathlib.Core.Path.{_≡_, refl, sym, ap, subst, _∙_}
 use native.Mathlib.Omega.{arith}
@@ -13,7 +13,7 @@ use Rattle.wire.specs.BigEndian.{beAt}
 use Rattle.wire.specs.Places.{fileAt}
 use Rattle.wire.specs.declared.FileAt.{FileAt}
 use Rattle.extension.specs.Signatures.{header-size}
-use Rattle.extension.specs.Iter.{cursor, extensionAt, stepAt, Found, Ending, filled, stray, Run, ended, cons, onStep, runBy, runAt}
+use Rattle.extension.specs.Iter.{cursor, extensionAt, stepAt, Found, Ending, filled, stray, ended, cons, onStep, runBy, runAt}
 use Rattle.extension.specs.IndexEntryOffsetTable.{version, version-size, pair-size, tableAt}
 use Rattle.extension.specs.declared.iter.Cursor.{Cursor}
 use Rattle.extension.specs.declared.index_entry_offset_table.Table.{Table}
@@ -23,14 +23,14 @@ use Rattle.extension.specs.declared.iter.Step.the-variants.{Extension, D
 
 -- ---- what holds of either answer of a test holds of the choice by it
 
-by-less : {A : Type 0} (P : A → Type 0) (a b : ℕ) {x y : A} → (a < b → P x) → (b ≤ a → P y) → P (pick (ltb a b) x y)
+pub by-less : {A : Type 0} (P : A → Type 0) (a b : ℕ) {x y : A} → (a < b → P x) → (b ≤ a → P y) → P (pick (ltb a b) x y)
 by-less P a b {x} {y} f g = go (less? a b)
   where
     go : {t : Bool} → Less a b t → P (pick t x y)
     go (less h) = f h
     go (not-less h) = g h
 
-by-same : {A : Type 0} (P : A → Type 0) (a b : ℕ) {x y : A} → (a ≡ b → P x) → ((a ≡ b → ⊥) → P y) → P (pick (eqb a b) x y)
+pub by-same : {A : Type 0} (P : A → Type 0) (a b : ℕ) {x y : A} → (a ≡ b → P x) → ((a ≡ b → ⊥) → P y) → P (pick (eqb a b) x y)
 by-same P a b {x} {y} f g = go (same? a b)
   where
     go : {t : Bool} → Same a b t → P (pick t x y)
