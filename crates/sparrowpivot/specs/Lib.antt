@@ -1,0 +1,2 @@
+-- The modules of sparrowpivot that contracts and proofs cite.
+pub mod Told
