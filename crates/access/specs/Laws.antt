@@ -14,7 +14,7 @@ use Rattle.laws.specs.Tests.{Same, same, differs, same?}
 use Rattle.laws.specs.Lists.{drop-next}
 use Rattle.laws.specs.Order.{Comparison, below, equal, beyond, compared, compared-lt, compared-gt, compared-eq}
 use Rattle.entry.specs.Record.{recordsIn, stageAt, liesInside, pathAt}
-use Rattle.access.specs.Order.{orderOf, byStage, placed, agreeing}
+use Rattle.access.specs.Order.{orderOf, stageOrder, byStage, placed, agreeing}
 use Rattle.access.specs.Verify.{isLess, followsAt, verifyFrom, verifyAt}
 use Rattle.access.specs.Lookup.{probeAt, turn, halve, searchAt, lookupAt}
 use Rattle.access.specs.declared.order.Order.{Order}
@@ -109,22 +109,25 @@ module _ (a b : List ℕ) (k : ℕ) (e : k ≡ agreeing a b) where
 
 -- ---- then the stage
 
+module _ (g h : ℕ) where
+  pub stage-below : g < h → Less ≡ stageOrder g h
+  stage-below l = sym (rw (lt-ltb g h l))
+
+  pub stage-beyond : h ≤ g → h < g → Greater ≡ stageOrder g h
+  stage-beyond m l = sym (rw (le-ltb g h m, lt-ltb h g l))
+
+  pub stage-same : h ≤ g → g ≤ h → Equal ≡ stageOrder g h
+  stage-same m l = sym (rw (le-ltb g h m, le-ltb h g l))
+
 module _ (o : Order) (g h : ℕ) where
-  pub stage-less : o ≡ Less → Less ≡ byStage o g h
-  stage-less e = sym (rw e)
+  pub then-less : o ≡ Less → Less ≡ byStage o g h
+  then-less e = sym (rw e)
 
-  pub stage-greater : o ≡ Greater → Greater ≡ byStage o g h
-  stage-greater e = sym (rw e)
+  pub then-greater : o ≡ Greater → Greater ≡ byStage o g h
+  then-greater e = sym (rw e)
 
-  module _ (e : o ≡ Equal) where
-    pub stage-below : g < h → Less ≡ byStage o g h
-    stage-below l = sym (rw (e, lt-ltb g h l))
-
-    pub stage-beyond : h ≤ g → h < g → Greater ≡ byStage o g h
-    stage-beyond m l = sym (rw (e, le-ltb g h m, lt-ltb h g l))
-
-    pub stage-same : h ≤ g → g ≤ h → Equal ≡ byStage o g h
-    stage-same m l = sym (rw (e, le-ltb g h m, le-ltb h g l))
+  pub then-stages : (r : Order) → r ≡ stageOrder g h → o ≡ Equal → r ≡ byStage o g h
+  then-stages r q e = q ∙ sym (rw e)
 
 -- ---- the order check: what is left of it, from record i on, answers r
 
@@ -234,7 +237,7 @@ module _ (rs ps key : List ℕ) (stage : ℕ) where
   unfolding lookupAt
   lookup-near r e h = e ∙ sym (rw (le-ltb 3 stage (omega arith)))
 
-pub ruleset orders = (agree-first, agree-second, agree-part, agree-more, compare-equal, compare-prefix, compare-longer, compare-less, compare-greater, stage-less, stage-greater, stage-below, stage-beyond, stage-same)
+pub ruleset orders = (agree-first, agree-second, agree-part, agree-more, compare-equal, compare-prefix, compare-longer, compare-less, compare-greater, stage-below, stage-beyond, stage-same, then-less, then-greater, then-stages)
 
 pub ruleset checks = (follows-first, follows-less, follows-equal, follows-greater, verify-start, verify-done, verify-outside, verify-not-after, verify-next)
 

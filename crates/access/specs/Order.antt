@@ -19,11 +19,14 @@ orderOf below = Less
 orderOf equal = Equal
 orderOf beyond = Greater
 
+abbrev pub stageOrder : ℕ → ℕ → Order
+stageOrder g h = pick (ltb g h) Less (pick (ltb h g) Greater Equal)
+
 -- where the paths are equal the stages decide
 abbrev pub byStage : Order → ℕ → ℕ → Order
 byStage Less g h = Less
 byStage Greater g h = Greater
-byStage Equal g h = pick (ltb g h) Less (pick (ltb h g) Greater Equal)
+byStage Equal g h = stageOrder g h
 
 -- how a record of path a and stage g stands to one of path b and stage h
 abbrev pub placed : List ℕ → ℕ → List ℕ → ℕ → Order

@@ -14,13 +14,8 @@ enum Probe {
 
 // What a lookup comes to: the record's index, and how many records were compared. NoStage is refusal 11; PathOutside is 12, with the record's index.
 pub enum Found {
-    At {
-        index: usize,
-        compared: usize,
-    },
-    Absent {
-        compared: usize,
-    },
+    At { index: usize, compared: usize },
+    Absent { compared: usize },
     NoStage,
     PathOutside(usize),
 }
