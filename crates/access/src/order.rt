@@ -1,7 +1,7 @@
 // The order of records: by the bytes of the path, unsigned, a prefix first; then by stage.
 ghost use mathlib.Core.Path.{_≡_};
 ghost use Rattle.laws.specs.Order.{compared};
-ghost use Rattle.access.specs.Order.{orderOf, stageOrder, byStage, agreeing};
+ghost use Rattle.access.specs.Order.{orderOf, stageOrder, thenBy, agreeing};
 
 pub enum Order {
     Less,
@@ -48,7 +48,7 @@ pub fn compare(a: &[u8], b: &[u8]) -> Order
     Order::Greater
 }
 
-fn compare_stages(a: u32, b: u32) -> Order
+pub fn compare_stages(a: u32, b: u32) -> Order
     ensures { λ r. ⌜ r ≡ stageOrder a b ⌝ }
 {
     if a < b {
@@ -60,13 +60,13 @@ fn compare_stages(a: u32, b: u32) -> Order
     Order::Equal
 }
 
-// Where the paths are equal the stages decide.
-pub fn then_stage(by_path: Order, a: u32, b: u32) -> Order
-    ensures { λ r. ⌜ r ≡ byStage «by_path» a b ⌝ }
+// The first, and where that is equal the second.
+pub fn then(first: Order, second: Order) -> Order
+    ensures { λ r. ⌜ r ≡ thenBy first second ⌝ }
 {
-    match by_path {
+    match first {
         Order::Less => Order::Less,
         Order::Greater => Order::Greater,
-        Order::Equal => compare_stages(a, b),
+        Order::Equal => second,
     }
 }
