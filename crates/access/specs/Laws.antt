@@ -14,7 +14,7 @@ use Rattle.laws.specs.Tests.{Same, same, differs, same?}
 use Rattle.laws.specs.Lists.{drop-next}
 use Rattle.laws.specs.Order.{Comparison, below, equal, beyond, compared, compared-lt, compared-gt, compared-eq}
 use Rattle.entry.specs.Record.{recordsIn, stageAt, liesInside, pathAt}
-use Rattle.access.specs.Order.{orderOf, byStage, placed, agreeing}
+use Rattle.access.specs.Order.{orderOf, stageOrder, thenBy, placed, agreeing}
 use Rattle.access.specs.Verify.{isLess, followsAt, verifyFrom, verifyAt}
 use Rattle.access.specs.Lookup.{probeAt, turn, halve, searchAt, lookupAt}
 use Rattle.access.specs.declared.order.Order.{Order}
@@ -109,22 +109,25 @@ module _ (a b : List ℕ) (k : ℕ) (e : k ≡ agreeing a b) where
 
 -- ---- then the stage
 
-module _ (o : Order) (g h : ℕ) where
-  pub stage-less : o ≡ Less → Less ≡ byStage o g h
-  stage-less e = sym (rw e)
+module _ (g h : ℕ) where
+  pub stage-below : g < h → Less ≡ stageOrder g h
+  stage-below l = sym (rw (lt-ltb g h l))
 
-  pub stage-greater : o ≡ Greater → Greater ≡ byStage o g h
-  stage-greater e = sym (rw e)
+  pub stage-beyond : h ≤ g → h < g → Greater ≡ stageOrder g h
+  stage-beyond m l = sym (rw (le-ltb g h m, lt-ltb h g l))
 
-  module _ (e : o ≡ Equal) where
-    pub stage-below : g < h → Less ≡ byStage o g h
-    stage-below l = sym (rw (e, lt-ltb g h l))
+  pub stage-same : h ≤ g → g ≤ h → Equal ≡ stageOrder g h
+  stage-same m l = sym (rw (le-ltb g h m, le-ltb h g l))
 
-    pub stage-beyond : h ≤ g → h < g → Greater ≡ byStage o g h
-    stage-beyond m l = sym (rw (e, le-ltb g h m, lt-ltb h g l))
+module _ (o q : Order) where
+  pub then-less : o ≡ Less → Less ≡ thenBy o q
+  then-less e = sym (rw e)
 
-    pub stage-same : h ≤ g → g ≤ h → Equal ≡ byStage o g h
-    stage-same m l = sym (rw (e, le-ltb g h m, le-ltb h g l))
+  pub then-greater : o ≡ Greater → Greater ≡ thenBy o q
+  then-greater e = sym (rw e)
+
+  pub then-second : o ≡ Equal → q ≡ thenBy o q
+  then-second e = sym (rw e)
 
 -- ---- the order check: what is left of it, from record i on, answers r
 
@@ -133,10 +136,10 @@ module _ (rs ps : List ℕ) (i : ℕ) where
   unfolding followsAt
   follows-first e = sym (rw (eq-eqb i 0 e))
 
-  module _ (e : i ≡ 0 → ⊥) (a b : List ℕ) (g h : ℕ) (by o : Order) (ea : a ≡ pathAt rs ps (i - 1)) (eb : b ≡ pathAt rs ps i) (eby : by ≡ orderOf (compared a b)) (eg : g ≡ stageAt rs (i - 1)) (eh : h ≡ stageAt rs i) (eo : o ≡ byStage by g h) where
+  module _ (e : i ≡ 0 → ⊥) (a b : List ℕ) (g h : ℕ) (by st o : Order) (ea : a ≡ pathAt rs ps (i - 1)) (eb : b ≡ pathAt rs ps i) (eby : by ≡ orderOf (compared a b)) (eg : g ≡ stageAt rs (i - 1)) (eh : h ≡ stageAt rs i) (est : st ≡ stageOrder g h) (eo : o ≡ thenBy by st) where
     follows-by : followsAt rs ps i ≡ isLess o
     unfolding followsAt
-    follows-by = rw (ne-eqb i 0 e, ← ea, ← eb, ← eg, ← eh, ← eby, ← eo)
+    follows-by = rw (ne-eqb i 0 e, ← ea, ← eb, ← eg, ← eh, ← eby, ← est, ← eo)
 
     pub follows-less : o ≡ Less → true ≡ followsAt rs ps i
     follows-less q = sym (follows-by ∙ ap isLess q)
@@ -180,9 +183,9 @@ module _ (rs ps key : List ℕ) (stage i : ℕ) (t : Bool) (et : t ≡ liesInsid
   unfolding probeAt
   probe-outside q = sym (rw (← et, q))
 
-  pub probe-is : t ≡ true → (a : List ℕ) (g : ℕ) (by o : Order) → a ≡ pathAt rs ps i → g ≡ stageAt rs i → by ≡ orderOf (compared a key) → o ≡ byStage by g stage → Is o ≡ probeAt rs ps key stage i
+  pub probe-is : t ≡ true → (a : List ℕ) (g : ℕ) (by st o : Order) → a ≡ pathAt rs ps i → g ≡ stageAt rs i → by ≡ orderOf (compared a key) → st ≡ stageOrder g stage → o ≡ thenBy by st → Is o ≡ probeAt rs ps key stage i
   unfolding probeAt
-  probe-is q a g by o ea eg eby eo = sym (rw (← et, q, ← ea, ← eg, ← eby, ← eo))
+  probe-is q a g by st o ea eg eby est eo = sym (rw (← et, q, ← ea, ← eg, ← eby, ← est, ← eo))
 
 -- ---- halving: what is left of it answers r
 
@@ -234,7 +237,7 @@ module _ (rs ps key : List ℕ) (stage : ℕ) where
   unfolding lookupAt
   lookup-near r e h = e ∙ sym (rw (le-ltb 3 stage (omega arith)))
 
-pub ruleset orders = (agree-first, agree-second, agree-part, agree-more, compare-equal, compare-prefix, compare-longer, compare-less, compare-greater, stage-less, stage-greater, stage-below, stage-beyond, stage-same)
+pub ruleset orders = (agree-first, agree-second, agree-part, agree-more, compare-equal, compare-prefix, compare-longer, compare-less, compare-greater, stage-below, stage-beyond, stage-same, then-less, then-greater, then-second)
 
 pub ruleset checks = (follows-first, follows-less, follows-equal, follows-greater, verify-start, verify-done, verify-outside, verify-not-after, verify-next)
 

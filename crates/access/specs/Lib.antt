@@ -5,3 +5,5 @@ pub mod Lookup
 pub mod Laws
 pub mod Steps
 pub mod Sorted
+pub mod Finds
+pub mod Marked

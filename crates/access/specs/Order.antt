@@ -19,15 +19,18 @@ orderOf below = Less
 orderOf equal = Equal
 orderOf beyond = Greater
 
--- where the paths are equal the stages decide
-abbrev pub byStage : Order → ℕ → ℕ → Order
-byStage Less g h = Less
-byStage Greater g h = Greater
-byStage Equal g h = pick (ltb g h) Less (pick (ltb h g) Greater Equal)
+abbrev pub stageOrder : ℕ → ℕ → Order
+stageOrder g h = pick (ltb g h) Less (pick (ltb h g) Greater Equal)
 
--- how a record of path a and stage g stands to one of path b and stage h
+-- the first, and where that is equal the second
+abbrev pub thenBy : Order → Order → Order
+thenBy Less o = Less
+thenBy Greater o = Greater
+thenBy Equal o = o
+
+-- how a record of path a and stage g stands to one of path b and stage h: where the paths are equal the stages decide
 abbrev pub placed : List ℕ → ℕ → List ℕ → ℕ → Order
-placed a g b h = byStage (orderOf (compared a b)) g h
+placed a g b h = thenBy (orderOf (compared a b)) (stageOrder g h)
 
 -- how many leading bytes agree
 unfoldable pub agreeing : List ℕ → List ℕ → ℕ
@@ -59,16 +62,16 @@ pub data Places (a : List ℕ) (g : ℕ) (b : List ℕ) (h : ℕ) : Order → Ty
   is-same : a ≡ b → g ≡ h → Places a g b h Equal
   is-greater : Precedes b h a g → Places a g b h Greater
 
-stage-lt : (g h : ℕ) → g < h → byStage Equal g h ≡ Less
+stage-lt : (g h : ℕ) → g < h → stageOrder g h ≡ Less
 stage-lt g h l = rw (lt-ltb g h l)
 
-stage-gt : (g h : ℕ) → h < g → byStage Equal g h ≡ Greater
+stage-gt : (g h : ℕ) → h < g → stageOrder g h ≡ Greater
 stage-gt g h l = let m : h ≤ g = omega arith in rw (le-ltb g h m, lt-ltb h g l)
 
-stage-eq : (g h : ℕ) → g ≡ h → byStage Equal g h ≡ Equal
+stage-eq : (g h : ℕ) → g ≡ h → stageOrder g h ≡ Equal
 stage-eq g h e = let l : h ≤ g = omega arith in let m : g ≤ h = omega arith in rw (le-ltb g h l, le-ltb h g m)
 
-same-path : (a : List ℕ) (g h : ℕ) → Places a g a h (byStage Equal g h)
+same-path : (a : List ℕ) (g h : ℕ) → Places a g a h (stageOrder g h)
 same-path a g h =
     ⊎-elim (λ l. subst (Places a g a h) (sym (stage-lt g h l)) (is-less (by-stage l)))
     (⊎-elim (λ e. subst (Places a g a h) (sym (stage-eq g h e)) (is-same refl e)) (λ l. subst (Places a g a h) (sym (stage-gt g h l)) (is-greater (by-stage l))))
@@ -77,9 +80,9 @@ same-path a g h =
 pub places : (a : List ℕ) (g : ℕ) (b : List ℕ) (h : ℕ) → Places a g b h (placed a g b h)
 places a g b h = by (compares a b)
   where
-    by : {c : Comparison} → Compares a b c → Places a g b h (byStage (orderOf c) g h)
+    by : {c : Comparison} → Compares a b c → Places a g b h (thenBy (orderOf c) (stageOrder g h))
     by (is-below t) = is-less (by-path t)
-    by (is-equal e) = subst (λ (z : List ℕ). Places a g z h (byStage Equal g h)) e (same-path a g h)
+    by (is-equal e) = subst (λ (z : List ℕ). Places a g z h (stageOrder g h)) e (same-path a g h)
     by (is-beyond t) = is-greater (by-path t)
 
 -- ---- each answer exactly when

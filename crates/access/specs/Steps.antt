@@ -60,11 +60,11 @@ countOr d (Absent k) = k
 countOr d NoStage = d
 countOr d (PathOutside i) = d
 
-halve-some : (p : ℕ → Probe) (f low high k : ℕ) → low < high → halve p (suc f) low high k ≡ turn (λ l h. halve p f l h (k + 1)) low high ((low + high) / 2) (k + 1) (p ((low + high) / 2))
+pub halve-some : (p : ℕ → Probe) (f low high k : ℕ) → low < high → halve p (suc f) low high k ≡ turn (λ l h. halve p f l h (k + 1)) low high ((low + high) / 2) (k + 1) (p ((low + high) / 2))
 unfolding halve
 halve-some p f low high k h = rw (lt-ltb low high h)
 
-halve-none : (p : ℕ → Probe) (f low high k : ℕ) → high ≤ low → halve p (suc f) low high k ≡ Absent k
+pub halve-none : (p : ℕ → Probe) (f low high k : ℕ) → high ≤ low → halve p (suc f) low high k ≡ Absent k
 unfolding halve
 halve-none p f low high k h = rw (le-ltb low high h)
 

@@ -28,7 +28,8 @@ fn probe_at(records: &[u8], paths: &[u8], key: &[u8], stage: u32, i: usize) -> P
         let path = entry::path_of(records, paths, i);
         let found = entry::stage_at(records, i);
         let by_path = order::compare(path, key);
-        let o = order::then_stage(by_path, found, stage);
+        let by_stage = order::compare_stages(found, stage);
+        let o = order::then(by_path, by_stage);
         return Probe::Is(o);
     }
     Probe::Outside

@@ -1,7 +1,7 @@
 // The order of records: by the bytes of the path, unsigned, a prefix first; then by stage.
 ghost use mathlib.Core.Path.{_≡_};
 ghost use Rattle.laws.specs.Order.{compared};
-ghost use Rattle.access.specs.Order.{orderOf, byStage, agreeing};
+ghost use Rattle.access.specs.Order.{orderOf, stageOrder, thenBy, agreeing};
 
 pub enum Order {
     Less,
@@ -32,35 +32,41 @@ pub fn compare(a: &[u8], b: &[u8]) -> Order
 {
     let k = agree(a, b);
     if a.len() <= k {
-        if b.len() <= k {
-            return Order::Equal;
+        if k < b.len() {
+            return Order::Less;
         }
-        return Order::Less;
+        return Order::Equal;
     }
     if b.len() <= k {
         return Order::Greater;
     }
-    if a[k] < b[k] {
+    let x = a[k];
+    let y = b[k];
+    if x < y {
         return Order::Less;
     }
     Order::Greater
 }
 
-// Where the paths are equal the stages decide.
-pub fn then_stage(by_path: Order, a: u32, b: u32) -> Order
-    ensures { λ r. ⌜ r ≡ byStage «by_path» a b ⌝ }
+pub fn compare_stages(a: u32, b: u32) -> Order
+    ensures { λ r. ⌜ r ≡ stageOrder a b ⌝ }
 {
-    match by_path {
+    if a < b {
+        return Order::Less;
+    }
+    if b < a {
+        return Order::Greater;
+    }
+    Order::Equal
+}
+
+// The first, and where that is equal the second.
+pub fn then(first: Order, second: Order) -> Order
+    ensures { λ r. ⌜ r ≡ thenBy first second ⌝ }
+{
+    match first {
         Order::Less => Order::Less,
         Order::Greater => Order::Greater,
-        Order::Equal => {
-            if a < b {
-                return Order::Less;
-            }
-            if b < a {
-                return Order::Greater;
-            }
-            Order::Equal
-        }
+        Order::Equal => second,
     }
 }

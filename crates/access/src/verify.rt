@@ -24,7 +24,8 @@ fn follows(records: &[u8], paths: &[u8], i: usize) -> bool
     );
     let a = entry::stage_at(records, before);
     let b = entry::stage_at(records, i);
-    let o = super::order::then_stage(by_path, a, b);
+    let by_stage = super::order::compare_stages(a, b);
+    let o = super::order::then(by_path, by_stage);
     match o {
         Order::Less => true,
         Order::Equal => false,

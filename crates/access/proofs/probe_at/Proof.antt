@@ -16,8 +16,11 @@ stage-at-requires c κs = search needs
 compare-requires : tie.Need-compare-requires
 compare-requires c κs = search needs
 
-then-stage-requires : tie.Need-then-stage-requires
-then-stage-requires c κs = search needs
+compare-stages-requires : tie.Need-compare-stages-requires
+compare-stages-requires c κs = search needs
+
+then-requires : tie.Need-then-requires
+then-requires c κs = search needs
 
 returns : tie.Need-returns
 returns c = search (laws, needs)
@@ -33,6 +36,7 @@ probe-at-spec =
     path-of-requires
     stage-at-requires
     compare-requires
-    then-stage-requires
+    compare-stages-requires
+    then-requires
     returns
     returns-2)

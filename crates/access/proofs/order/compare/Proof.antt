@@ -16,11 +16,11 @@ returns-2 c = search (laws, needs)
 returns-3 : tie.Need-returns-3
 returns-3 c = search (laws, needs)
 
-shared-slice-read-if4 : tie.Need-shared-slice-read-if4
-shared-slice-read-if4 c = search needs
+shared-slice-read-x : tie.Need-shared-slice-read-x
+shared-slice-read-x c = search needs
 
-shared-slice-read-if4-2 : tie.Need-shared-slice-read-if4-2
-shared-slice-read-if4-2 c = search needs
+shared-slice-read-y : tie.Need-shared-slice-read-y
+shared-slice-read-y c = search needs
 
 returns-4 : tie.Need-returns-4
 returns-4 c = search (laws, needs)
@@ -36,7 +36,7 @@ compare-spec =
     returns
     returns-2
     returns-3
-    shared-slice-read-if4
-    shared-slice-read-if4-2
+    shared-slice-read-x
+    shared-slice-read-y
     returns-4
     returns-5)

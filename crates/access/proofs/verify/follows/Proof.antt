@@ -25,8 +25,11 @@ stage-at-requires c κs = search needs
 stage-at-requires-2 : tie.Need-stage-at-requires-2
 stage-at-requires-2 c κs = search needs
 
-then-stage-requires : tie.Need-then-stage-requires
-then-stage-requires c κs = search needs
+compare-stages-requires : tie.Need-compare-stages-requires
+compare-stages-requires c κs = search needs
+
+then-requires : tie.Need-then-requires
+then-requires c κs = search needs
 
 enum-told : tie.Need-enum-told
 enum-told c = search needs
@@ -57,7 +60,8 @@ follows-spec =
     compare-requires
     stage-at-requires
     stage-at-requires-2
-    then-stage-requires
+    compare-stages-requires
+    then-requires
     enum-told
     enum-told-2
     enum-told-3
