@@ -2,4 +2,5 @@
 pub mod Head
 pub mod Store
 pub mod Spelled
+pub mod Marked
 pub mod Laws

@@ -7,10 +7,11 @@ use Prim.Native.Nat.{ℕ, zero, suc, _+_, _-_, _*_, _≤_, _<_}
 use native.Mathlib.Omega.{arith}
 use lib.ListN.{length, getD, drop}
 use lib.Dec.{ltb, leb, eqb}
-use borrow.Author.Tests.{leb-true, ltb-false}
+use lib.Seq.{getD-drop}
+use borrow.Author.Tests.{leb-true, ltb-false, eqb-false}
 use Rattle.laws.specs.Pick.{pick}
 use Rattle.laws.specs.Tests.{AtMost, at-most, above, at-most?, Less, less, not-less, less?}
-use Rattle.slices.specs.Bytes.{nulAt}
+use Rattle.slices.specs.Bytes.{nulIn, nulAt}
 use Rattle.slices.specs.Laws.{nul-bounds}
 use Rattle.slices.specs.declared.Ends.{Ends}
 use Rattle.slices.specs.declared.Ends.the-variants.{With, Never}
@@ -87,6 +88,23 @@ spaced-small s i end w e = by (leb end i) (eqb (getD s i 0) 32)
     by false true q = unsigned-small 10 mostSubtrees s (i + 1) end w e q
     by false false q = let z : _≡_ {A = ℕ} 0 1 = cc in absurd (omega arith)
 
+-- ---- no NUL stands before the first
+
+no-nul-in : (f : ℕ) (l : List ℕ) (i z : ℕ) → nulIn f l i ≡ With z → (k : ℕ) → i + k < z → getD l k 0 ≡ 0 → ⊥
+unfolding nulIn
+no-nul-in zero l i z q k h e = let w : _≡_ {A = ℕ} 0 1 = cc in omega arith
+no-nul-in (suc f) [] i z q k h e = let w : _≡_ {A = ℕ} 0 1 = cc in omega arith
+no-nul-in (suc f) (c ∷ l) i z q k h e = by (eqb c 0) refl (no-nul-in f l (i + 1) z) q k h e
+  where
+    by : (t : Bool) → eqb c 0 ≡ t → (nulIn f l (i + 1) ≡ With z → (k : ℕ) → i + 1 + k < z → getD l k 0 ≡ 0 → ⊥) → pick t (With i) (nulIn f l (i + 1)) ≡ With z → (k : ℕ) → i + k < z → getD (c ∷ l) k 0 ≡ 0 → ⊥
+    by true p ih r k h e = let w : i ≡ z = cc in omega arith
+    by false p ih r zero h e = eqb-false c 0 p e
+    by false p ih r (suc k) h e = ih r k (omega arith) e
+
+no-nul : (s : List ℕ) (at end z : ℕ) → nulAt s at end ≡ With z → (k : ℕ) → at + k < z → getD s (at + k) 0 ≡ 0 → ⊥
+unfolding nulAt
+no-nul s at end z q k h e = no-nul-in (end - at) (drop at s) at z q k h (getD-drop at s k 0 ∙ e)
+
 -- ---- the head
 
 -- behind the counts
@@ -119,6 +137,7 @@ pub record Spelled (idLength : ℕ) (s : List ℕ) (at end : ℕ) (n : Node) : T
   pub starts : n .start ≡ at
   pub named : at ≤ n .stop
   pub stops : n .stop < end
+  pub plain : (k : ℕ) → at + k < n .stop → getD s (at + k) 0 ≡ 0 → ⊥
   pub turned : n .id ≤ n .next
   pub short : n .next - n .id ≤ idLength
   pub ends : n .next ≤ end
@@ -134,6 +153,7 @@ module _ (idLength : ℕ) (s : List ℕ) (at end : ℕ) (n : Node) where
         starts = e .starts;
         named = omega (arith, bounds .0, e .stops);
         stops = omega (arith, bounds .1, e .stops);
+        plain = λ k h. no-nul s at end stop z k (omega (arith, e .stops));
         turned = omega (arith, e .long);
         short = omega (arith, e .long);
         ends = e .ends;

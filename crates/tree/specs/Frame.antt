@@ -1,4 +1,4 @@
--- What the reading of a node leaves as it was: the store's length, and every byte of the nodes before it. The nodes used grow, and never past the store. By induction
+-- What the reading of a node leaves as it was: the store's length, every byte of the nodes before it and, where it is read, every byte behind the nodes used. The nodes used grow, and never past the store. By induction
 -- on the depth, over the id's length. Assumes nothing.
 use mathlib.Core.Bool.{Bool, true, false}
 use mathlib.Core.Path.{_≡_, refl, sym, ap, _∙_}
@@ -8,6 +8,7 @@ use native.Mathlib.Omega.{arith}
 use lib.Dec.{leb, lit≤}
 use lib.ListN.{length, getD}
 use lib.Seq.{paste}
+use Rattle.laws.specs.Paste.{getD-after}
 use Rattle.laws.specs.Pick.{pick}
 use Rattle.laws.specs.Tests.{AtMost, at-most, above, at-most?}
 use Rattle.node.specs.declared.Node.{Node}
@@ -29,6 +30,7 @@ use Rattle.tree.specs.Tree.{Out, andThen, kids, settledAs, settled, body
 pub record Kept (used least : ℕ) (ns : List ℕ) (o : Out) : Type 0 where
   pub long : length (o .1) ≡ length ns
   pub low : (k : ℕ) → k < used * 72 → getD (o .1) k 0 ≡ getD ns k 0
+  pub high : (n u : ℕ) → o .0 ≡ Read n u → (k : ℕ) → u * 72 ≤ k → getD (o .1) k 0 ≡ getD ns k 0
   pub onward : (n u : ℕ) → o .0 ≡ Read n u → least ≤ u
   pub room : (n u : ℕ) → o .0 ≡ Read n u → used ≤ length ns / 72 → u ≤ length ns / 72
 
@@ -39,7 +41,7 @@ pub read-used : (n u m v : ℕ) → Read n u ≡ Read m v → u ≡ v
 read-used n u m v e = cc
 
 stopped : (used least : ℕ) (ns : List ℕ) (f : Fault) → Kept used least ns (Stops f, ns)
-stopped used least ns f = record { long = refl; low = λ k h. refl; onward = λ n u e. absurd (not-read f n u e); room = λ n u e h. absurd (not-read f n u e) }
+stopped used least ns f = record { long = refl; low = λ k h. refl; high = λ n u e. absurd (not-read f n u e); onward = λ n u e. absurd (not-read f n u e); room = λ n u e h. absurd (not-read f n u e) }
 
 -- an outcome that is kept, and then what goes on from it
 pub then-kept : (used least : ℕ) (ns : List ℕ) (o : Out) (k : ℕ → ℕ → List ℕ → Out) → used ≤ least → Kept used least ns o → ((n u : ℕ) (ms : List ℕ) → Kept u u ms (k n u ms)) → Kept used least ns (andThen o k)
@@ -48,18 +50,19 @@ then-kept used least ns (Read n u, ms) k h a b =
     record {
       long = b n u ms .long ∙ a .long;
       low = λ i l. b n u ms .low i (omega (arith, a .onward n u refl)) ∙ a .low i l;
+      high = λ m v e i l. b n u ms .high m v e i l ∙ a .high n u refl i (omega (arith, b n u ms .onward m v e));
       onward = λ m v e. omega (arith, a .onward n u refl, b n u ms .onward m v e);
       room = λ m v e l. let q : u ≤ length ms / 72 = rw long (a .room n u refl l) in rw long at (b n u ms .room m v e q);
     }
-then-kept used least ns (Stops f, ms) k h a b = record { long = a .long; low = a .low; onward = a .onward; room = a .room }
+then-kept used least ns (Stops f, ms) k h a b = record { long = a .long; low = a .low; high = a .high; onward = a .onward; room = a .room }
 
 pub kids-kept : (f : ℕ → ℕ → List ℕ → Out) → ((at used : ℕ) (ns : List ℕ) → Kept used (used + 1) ns (f at used ns)) → (l at used : ℕ) (ns : List ℕ) → Kept used used ns (kids f l at used ns)
 unfolding kids
-kids-kept f a zero at used ns = record { long = refl; low = λ k h. refl; onward = λ n u e. omega (arith, read-used at used n u e); room = λ n u e h. omega (arith, read-used at used n u e) }
+kids-kept f a zero at used ns = record { long = refl; low = λ k h. refl; high = λ n u e k h. refl; onward = λ n u e. omega (arith, read-used at used n u e); room = λ n u e h. omega (arith, read-used at used n u e) }
 kids-kept f a (suc l) at used ns = then-kept used used ns (f at used ns) (kids f l) (omega arith) weaker (λ n u ms. kids-kept f a l n u ms)
   where
     weaker : Kept used used ns (f at used ns)
-    weaker = let k = a at used ns in record { long = k .long; low = k .low; onward = λ n u e. omega (arith, k .onward n u e); room = k .room }
+    weaker = let k = a at used ns in record { long = k .long; low = k .low; high = k .high; onward = λ n u e. omega (arith, k .onward n u e); room = k .room }
 
 pub settled-used : (s : List ℕ) (me next used : ℕ) (ns : List ℕ) (n u : ℕ) → settledAs s ns me next used ≡ Read n u → used ≡ u
 unfolding settledAs
@@ -74,6 +77,7 @@ settled-kept s me next used ns =
     record {
       long = refl;
       low = λ k h. refl;
+      high = λ n u e k h. refl;
       onward = λ n u e. omega (arith, settled-used s me next used ns n u e);
       room = λ n u e h. omega (arith, settled-used s me next used ns n u e);
     }
@@ -103,6 +107,9 @@ module _ (idLength : ℕ) (fits : idLength ≤ 32) (s : List ℕ) (at end : ℕ)
 
   pub put-low : (k : ℕ) → k < used * 72 → getD (putAt s n parent ns used) k 0 ≡ getD ns k 0
   put-low k l = ap (λ (x : List ℕ). getD x k 0) put-paste ∙ byte-before ns used (nodeOf s n parent) full h k l
+
+  pub put-high : (k : ℕ) → (used + 1) * 72 ≤ k → getD (putAt s n parent ns used) k 0 ≡ getD ns k 0
+  put-high k l = ap (λ (x : List ℕ). getD x k 0) put-paste ∙ getD-after ns (used * 72) (nodeOf s n parent) 72 k (omega arith) (omega (arith, full)) (omega arith)
 
 module _ (idLength : ℕ) (fits : idLength ≤ 32) (s : List ℕ) (at end : ℕ) (n : Node) (parent : ℕ) (ns : List ℕ) (used : ℕ) (h : used < length ns / 72) (q : headAt idLength s at end ≡ Is n) where
   word-of : (k : ℕ) → k + 8 ≤ 72 → wordAt k (putAt s n parent ns used) used ≡ beAt 8 (nodeOf s n parent) k
@@ -149,6 +156,7 @@ body-kept idLength fits s at end rec a parent used ns l (Is n) q =
         record {
           long = k .long ∙ long;
           low = λ i m. k .low i (omega arith) ∙ put-low idLength fits s at end n parent ns used l q i m;
+          high = λ m v e i r. k .high m v e i r ∙ put-high idLength fits s at end n parent ns used l q i (omega (arith, k .onward m v e));
           onward = k .onward;
           room = λ m v e r. let z : used + 1 ≤ length (putAt s n parent ns used) / 72 = rw long (omega arith) in rw long at (k .room m v e z);
         }

@@ -2,4 +2,5 @@
 pub mod Tree
 pub mod Frame
 pub mod Inside
+pub mod Marked
 pub mod Laws
