@@ -1,0 +1,3 @@
+-- The modules of listing that contracts and proofs cite.
+pub mod Lines
+pub mod Examples
