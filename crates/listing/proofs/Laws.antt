@@ -6,9 +6,9 @@ use Prim.Native.Nat.{ℕ, zero, suc, _+_, _-_, _*_, _/_, _%_, _^_, _≤_, _<_}
 use native.Mathlib.Nat.{sub-zero, pow-suc}
 use native.Mathlib.Omega.{arith}
 use lib.Dec.{ltb}
-use lib.ListN.{length, set, take, drop, length-append, length-replicate}
+use lib.ListN.{length, set, take, drop, replicate, length-append, length-replicate}
 use lib.Seq.{paste, take-all, take-at, length-take-le}
-use borrow.Author.Tests.{lt-ltb, le-ltb}
+use borrow.Author.Tests.{lt-ltb, le-ltb, eq-eqb, ne-eqb}
 use Rattle.laws.specs.Pick.{pick}
 use Rattle.laws.specs.Tests.{lt-or-ge}
 use Rattle.laws.specs.Lists.{length-part}
@@ -17,7 +17,12 @@ use Rattle.laws.specs.Put.{put, put-none, put-put, paste-put, set-put, length-p
 use Rattle.show.specs.Hex.{digit, hex}
 use Rattle.entry.specs.Record.{modeAt, idAt, stageAt, pathAt}
 use Rattle.entry.specs.Laws.{id-is, id-out}
-use Rattle.listing.specs.Lines.{cap, octal, headOf, lineOf, lineAt, linesFrom, refusedWord, tailOf, refusedText, outcome, written}
+use Rattle.listing.specs.Lines.{cap, octal, headOf, lineOf, lineAt, linesFrom, refusedWord, tailOf, refusedText, Outcome, outcome, written}
+use Rattle.listing.specs.Listed.{recordsOf, textOf, tooBig, textOfOutcome, listed}
+use Rattle.file.specs.Answer.{numberOf, carriesOf, carriedOf}
+use Rattle.file.specs.Read as read
+use Rattle.file.specs.declared.Answer.{Answer}
+use Rattle.file.specs.declared.Answer.the-variants.{Read}
 use Rattle.wire.specs.Written.{digitsOf, size-one, size-more}
 use mathlib.Core.Bool.{Bool, true, false}
 
@@ -296,6 +301,38 @@ module _ (number value : ℕ) (carries : Bool) (d : List ℕ) (room : length (re
       let i₂ : d₂ ≡ put d 0 (refusedWord ++ ds) = e₂ ∙ ap (λ (l : List ℕ). put l 8 ds) i₁ ∙ put-put d refusedWord ds 0 (omega arith) in
       let q : next ≡ 0 + length (refusedWord ++ ds) = omega (arith, length-append refusedWord ds) in
       e₃ ∙ (λ k. put (i₂ k) (q k) (tailOf carries value)) ∙ put-put d (refusedWord ++ ds) (tailOf carries value) 0 (omega arith)
+
+-- ---- an answer, and a file
+
+module _ (a : Answer) (rs ps out : List ℕ) (number : ℕ) (is : number ≡ numberOf a) (o : Outcome) where
+  pub answer-read : number ≡ 0 → (n : ℕ) → n ≡ recordsOf a → o ≡ written (linesFrom 20 rs ps n 0) out → o ≡ written (textOf 20 a rs ps) out
+  unfolding textOf
+  answer-read z n en e = e ∙ ap (λ (k : ℕ). written (linesFrom 20 rs ps k 0) out) en ∙ sym (rw (← is, eq-eqb number 0 z))
+
+  pub answer-refused : (number ≡ 0 → ⊥) → (carries : Bool) (value : ℕ) → carries ≡ carriesOf a → value ≡ carriedOf a → o ≡ written (refusedText number carries value) out → o ≡ written (textOf 20 a rs ps) out
+  unfolding textOf
+  answer-refused z carries value ec ev e = e ∙ (λ k. written (refusedText number (ec k) (ev k)) out) ∙ sym (rw (← is, ne-eqb number 0 z))
+
+pub records-read : (a : Answer) (version : ℕ) (sparse tree : Bool) (n paths nodes : ℕ) → a ≡ Read version sparse tree n paths nodes → n ≡ recordsOf a
+records-read a version sparse tree n paths nodes e = sym (ap recordsOf e)
+
+module _ (s out : List ℕ) (o : Outcome) where
+  pub listed-big : 65536 < length s → o ≡ written tooBig out → o ≡ written (listed 20 64 s) out
+  unfolding listed
+  listed-big h e = e ∙ sym (rw (lt-ltb 65536 (length s) h))
+
+  pub listed-read : length s ≤ 65536 → (a : Answer) (rs ps ns : List ℕ) → read.outcome a rs ps ns ≡ read.readFile 20 64 s (replicate 49152 0) (replicate 65536 0) (replicate 18432 0)
+      → o ≡ written (textOf 20 a rs ps) out → o ≡ written (listed 20 64 s) out
+  unfolding listed
+  listed-read h a rs ps ns er e = e ∙ ap (λ (q : read.Outcome). written (textOfOutcome 20 q) out) er ∙ sym (rw (le-ltb 65536 (length s) h))
+
+pub too-short : (out : List ℕ) → length out < 8 → outcome 8 out ≡ written tooBig out
+too-short out h = text-short tooBig out 8 (sym (cap-fits 8 (omega arith))) h
+
+pub too-written : (out out₁ : List ℕ) → 8 ≤ length out → length out < 18446744073709551615 → out₁ ≡ paste out 0 (drop 0 tooBig) 8 → outcome 8 out₁ ≡ written tooBig out
+too-written out out₁ h k e = text-written tooBig out 8 (sym (cap-fits 8 (omega arith))) h k out₁ (copied out out₁ tooBig 0 8 e refl)
+
+pub ruleset answer-laws = (records-read, answer-read, answer-refused, listed-big, listed-read, too-short, too-written)
 
 pub ruleset laws = (octal-six, head-put, line-head, line-room, line-next, line-put, plus-over, plus-fits, size-start, size-end, size-turn, cap-small, fill-start, fill-fits, fill-room, fill-left, fill-end, fill-more, text-short, text-fits, text-written)
 

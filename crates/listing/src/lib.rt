@@ -5,6 +5,8 @@ ghost use Prim.Native.Nat.{_+_, _%_, _≤_, _<_};
 ghost use lib.ListN.{length};
 ghost use Rattle.laws.specs.Put.{put};
 ghost use Rattle.listing.specs.Lines.{cap, octal, headOf, lineAt, linesFrom, tailOf, refusedText, outcome, written};
+ghost use Rattle.listing.specs.Listed.{recordsOf, textOf, tooBig, listed};
+use file::Answer;
 
 const NEWLINE: u8 = 10;
 
@@ -16,6 +18,15 @@ const HEAD_SIZE: usize = 50;
 
 // The largest number: where a size would be larger, it is this.
 const MOST: usize = 18446744073709551615;
+
+// The largest file that the listing program reads, and the room that it lends: 512 records, 65,536 path bytes and 256 nodes.
+const MOST_BYTES: usize = 65536;
+
+const RECORD_ROOM: usize = 49152;
+
+const PATH_ROOM: usize = 65536;
+
+const NODE_ROOM: usize = 18432;
 
 // The octal digit of the lowest three bits.
 fn octal_digit(x: u32) -> u8
@@ -178,4 +189,71 @@ fn write_refused(number: u32, carries: bool, value: u64, out: &mut [u8]) -> usiz
     }
     put_refused(number, carries, value, out);
     size
+}
+
+// How many records an answer speaks of.
+fn records_of(answer: Answer) -> usize
+    ensures { λ r. ⌜ r ≡ recordsOf answer ⌝ }
+{
+    match answer {
+        Answer::Read {
+            version: _,
+            sparse: _,
+            tree: _,
+            records,
+            path_bytes: _,
+            nodes: _,
+        } => records,
+        Answer::ShortFile => 0,
+        Answer::NoSignature => 0,
+        Answer::OtherVersion(_) => 0,
+        Answer::BadTrailer => 0,
+        Answer::NotSpelled(_) => 0,
+        Answer::NoEntryRoom(_) => 0,
+        Answer::NotFilled(_) => 0,
+        Answer::Mandatory(_) => 0,
+        Answer::TooDeep => 0,
+        Answer::NoNodeRoom => 0,
+    }
+}
+
+// Writes an answer as text at the start of out: the lines of its records, or one line that names the refusal. Answers how long the text is; where it does not fit, out
+// stays as it was.
+pub fn write_lines(answer: Answer, records: &[u8], paths: &[u8], out: &mut [u8]) -> usize
+    ensures { λ r. ⌜ outcome r (now (out .exit)) ≡ written (textOf 20 answer (now (records .entry)) (now (paths .entry))) (now (out .entry)) ⌝ }
+{
+    let number = file::number(answer);
+    if number == 0 {
+        let n = records_of(answer);
+        return write_records(records, paths, n, out);
+    }
+    let carries = file::carries(answer);
+    let value = file::carried(answer);
+    write_refused(number, carries, value, out)
+}
+
+// Writes what is said of a file that is too long, if it fits.
+fn write_too_big(out: &mut [u8]) -> usize
+    ensures { λ r. ⌜ outcome r (now (out .exit)) ≡ written tooBig (now (out .entry)) ⌝ }
+{
+    if out.len() < 8 {
+        return 8;
+    }
+    slices::copy_bytes(b"too big\n", 0, 8, out, 0);
+    8
+}
+
+// Writes what the listing program prints of a file, and answers how long that is; where it does not fit, out stays as it was. A listing is never longer than 91,648
+// bytes.
+pub fn list_file(file: &[u8], out: &mut [u8]) -> usize
+    ensures { λ r. ⌜ outcome r (now (out .exit)) ≡ written (listed 20 64 (now (file .entry))) (now (out .entry)) ⌝ }
+{
+    if MOST_BYTES < file.len() {
+        return write_too_big(out);
+    }
+    let mut records = [0u8; RECORD_ROOM];
+    let mut paths = [0u8; PATH_ROOM];
+    let mut nodes = [0u8; NODE_ROOM];
+    let answer = file::read(file, &mut records, &mut paths, &mut nodes);
+    write_lines(answer, &records, &paths, out)
 }
