@@ -1,0 +1,2 @@
+-- The modules of listing that proofs cite.
+pub mod Laws
