@@ -2,3 +2,4 @@
 pub mod Entry
 pub mod Laws
 pub mod Inside
+pub mod Settled
