@@ -3,3 +3,4 @@ pub mod Entry
 pub mod Laws
 pub mod Inside
 pub mod Settled
+pub mod Open

@@ -1,14 +1,14 @@
 -- Short is said only of what may yet change: every other answer of the measure stays the same in any longer space with the same bytes in front. So a Fault is
 -- never mended by what follows, and an Entry is never lost. Assumes nothing.
 use Prim.Native.Nat.{ℕ, zero, suc, _+_, _-_, _*_, _/_, _%_, _^_, _≤_, _<_}
-use mathlib.Core.Path.{_≡_, refl, sym, ap, _∙_, subst}
+use mathlib.Core.Path.{_≡_, refl, sym, ap, _∙_}
 use mathlib.Core.Bool.{Bool, true, false}
-use mathlib.Core.List.{List, [], _∷_}
+use mathlib.Core.List.{List, _∷_}
 use native.Mathlib.Nat.{add-zero}
 use native.Mathlib.Omega.{arith}
 use lib.ListN.{length, getD, drop}
 use lib.Dec.{ltb, eqb}
-use borrow.Author.Tests.{lt-ltb, le-ltb, ltb-true, ltb-false, eq-eqb, ne-eqb, eqb-false, eqb-true}
+use borrow.Author.Tests.{lt-ltb, le-ltb, ltb-true, ne-eqb, eqb-false}
 use Rattle.laws.specs.Pick.{pick}
 use Rattle.laws.specs.Lists.{drop-next}
 use Rattle.laws.specs.Tests.{Less, less, not-less, less?}
@@ -50,12 +50,12 @@ pub record Continues (s t : List ℕ) (end stop : ℕ) : Type 0 where
   pub same : (k : ℕ) → k < end → getD t k 0 ≡ getD s k 0
   pub bytes : (k : ℕ) → getD t k 0 < 256
 
-abbrev goOn : Number → (ℕ → Number) → Number
+abbrev pub goOn : Number → (ℕ → Number) → Number
 goOn (Is v e) k = Is v e
 goOn (Cut a) k = k a
 goOn Over k = Over
 
-abbrev goOnEnds : Ends → Ends → Ends
+abbrev pub goOnEnds : Ends → Ends → Ends
 goOnEnds (With z) r = With z
 goOnEnds Never r = r
 
@@ -67,7 +67,7 @@ module _ (s t : List ℕ) (end stop : ℕ) (c : Continues s t end stop) where
   next-t i h = drop-next t i (omega (arith, c .longer, c .there)) ∙ ap (λ (x : ℕ). x ∷ drop (i + 1) t) (c .same i h)
 
   -- a number that is cut goes on behind `end`, and any other stays
-  number-on : (n i a : ℕ) → end - i ≡ n → i ≤ end → groupsIn (stop - i) (drop i t) i a ≡ goOn (groupsIn (end - i) (drop i s) i a) (λ b. groupsIn (stop - end) (drop end t) end b)
+  pub number-on : (n i a : ℕ) → end - i ≡ n → i ≤ end → groupsIn (stop - i) (drop i t) i a ≡ goOn (groupsIn (end - i) (drop i s) i a) (λ b. groupsIn (stop - end) (drop end t) end b)
   unfolding groupsIn
   number-on zero i a e h =
       let z : i ≡ end = omega arith in
@@ -89,7 +89,7 @@ module _ (s t : List ℕ) (end stop : ℕ) (c : Continues s t end stop) where
       by x v false false ih = refl
 
   -- a NUL that is found stays
-  nul-on : (n i : ℕ) → end - i ≡ n → i ≤ end → nulIn (stop - i) (drop i t) i ≡ goOnEnds (nulIn (end - i) (drop i s) i) (nulIn (stop - end) (drop end t) end)
+  pub nul-on : (n i : ℕ) → end - i ≡ n → i ≤ end → nulIn (stop - i) (drop i t) i ≡ goOnEnds (nulIn (end - i) (drop i s) i) (nulIn (stop - end) (drop end t) end)
   unfolding nulIn
   nul-on zero i e h =
       let z : i ≡ end = omega arith in
@@ -106,7 +106,7 @@ module _ (s t : List ℕ) (end stop : ℕ) (c : Continues s t end stop) where
       by true ih = refl
       by false ih = ih
 
-  word-same : (k : ℕ) → k + 2 ≤ end → beAt 2 t k ≡ beAt 2 s k
+  pub word-same : (k : ℕ) → k + 2 ≤ end → beAt 2 t k ≡ beAt 2 s k
   word-same k h = be-same 2 t s k k (λ m l. c .same (k + m) (omega arith))
 
   -- ---- the fixed part: what is not unfinished stays
@@ -126,7 +126,7 @@ module _ (s t : List ℕ) (end stop : ℕ) (c : Continues s t end stop) where
       by false true f g q = let z : _≡_ {A = ℕ} 0 1 = cc in absurd (omega arith)
       by false false f g q = low (ltb 32767 (b * 256 + d)) (eqb-false (b * 256 % 8192) 0 g)
 
-  word-of : (k : ℕ) → beAt 2 t k ≡ getD t k 0 * 256 + getD t (k + 1) 0
+  pub word-of : (k : ℕ) → beAt 2 t k ≡ getD t k 0 * 256 + getD t (k + 1) 0
   unfolding beAt
   word-of k = rw (add-zero k) (omega arith)
 
@@ -151,7 +151,7 @@ module _ (s t : List ℕ) (end stop : ℕ) (c : Continues s t end stop) where
       none (not-less a) (less b) m = rw (le-ltb (stop - j) 1 (omega (arith, c .longer))) (lower (extendedToMemory (getD s j 0 * 256)) refl (omega arith) (less? (stop - j) 2) m)
       none (not-less a) (not-less b) m = rw (le-ltb (stop - j) 1 (omega (arith, c .longer)), le-ltb (stop - j) 2 (omega (arith, c .longer)), word-same j (omega arith))
 
-  head-stays : (id i : ℕ) → (headAt id s i end ≡ Unfinished → ⊥) → headAt id t i stop ≡ headAt id s i end
+  pub head-stays : (id i : ℕ) → (headAt id s i end ≡ Unfinished → ⊥) → headAt id t i stop ≡ headAt id s i end
   unfolding headAt headWith
   head-stays id i n = by (less? (length s) end) (less? end i) (less? (end - i) (42 + id)) n
     where
