@@ -3,6 +3,7 @@
 use Prim.Native.Nat.{ℕ, _+_, _-_, _*_, _/_}
 use lib.Dec.{eqb}
 use Rattle.laws.specs.Pick.{pick}
+use Rattle.measure.specs.Entry.{plainSize}
 use Rattle.decode.specs.Header.{headerSize}
 use Rattle.decode.specs.declared.entries.Extensions.{Extensions}
 use Rattle.decode.specs.declared.entries.Extensions.the-variants.{From, NotTold}
@@ -13,7 +14,7 @@ blockSize size NotTold id = size - id - headerSize
 
 -- the fixed part, to a multiple of 8; in version 4 with a strip of one byte and a NUL
 unfoldable pub minEntrySize : ℕ → ℕ → ℕ
-minEntrySize version id = pick (eqb version 4) (42 + id + 2) ((42 + id + 7) / 8 * 8)
+minEntrySize version id = pick (eqb version 4) (plainSize id + 2) ((plainSize id + 7) / 8 * 8)
 
 unfoldable pub maxEntries : ℕ → Extensions → ℕ → ℕ → ℕ
 maxEntries size extensions version id = blockSize size extensions id / minEntrySize version id

@@ -1,6 +1,6 @@
 -- A run of entries into two stores, one entry after the other, over the id's length (01, How an entry is spelled; When the desk says no, 5 and 6). Each entry is
 -- measured first; then record room and path room are tested; only then is it stored. Assumes nothing.
-use Prim.Native.Nat.{ℕ, zero, suc, _+_, _-_, _*_, _≤_}
+use Prim.Native.Nat.{ℕ, zero, suc, _+_, _-_, _≤_}
 use mathlib.Core.Bool.{Bool, true, false}
 use mathlib.Core.List.{List, [], _∷_, _++_}
 use lib.ListN.{length, take, drop}

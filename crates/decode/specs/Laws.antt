@@ -21,7 +21,6 @@ use Rattle.measure.specs.Entry.{measureAt}
 use Rattle.measure.specs.Inside.{Inside, measured-inside}
 use Rattle.measure.specs.declared.Measured.{Measured}
 use Rattle.measure.specs.declared.Measured.the-variants.{Entry, Short, Fault}
-use Rattle.decode.specs.declared.header.Header.{Header}
 use Rattle.decode.specs.declared.header.Header.the-variants.{Opens, ShortFile, NoSignature, OtherVersion}
 use Rattle.decode.specs.declared.entries.Answer.the-variants.{Done, NotSpelled, NoRoom}
 use Rattle.decode.specs.Header.{onVersion, headerAt}

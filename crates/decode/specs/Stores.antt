@@ -1,31 +1,32 @@
 -- What a run leaves in its stores, over the id's length: a run as turns, the lengths, what stands before it, and that the path of each record it read lies in the
 -- path store. Later crates cite these and not the run's text. Assumes nothing.
-use Prim.Native.Nat.{ℕ, zero, suc, _+_, _-_, _*_, _/_, _^_, _≤_, _<_}
-use mathlib.Core.Path.{_≡_, refl, sym, ap, _∙_, subst}
+use Prim.Native.Nat.{ℕ, zero, suc, _+_, _-_, _*_, _^_, _≤_, _<_}
+use mathlib.Core.Path.{_≡_, refl, ap, _∙_}
 use mathlib.Core.Bool.{Bool, true, false}
-use mathlib.Core.List.{List, [], _∷_, _++_, append-assoc}
+use mathlib.Core.List.{List, _++_, append-assoc}
 use mathlib.Core.Logic.{_⊎_, inl, inr, ⊎-elim}
 use native.Mathlib.Omega.{arith}
 use lib.ListN.{length, take, drop, length-append}
 use lib.Dec.{ltb, leb}
 use lib.Seq.{paste, length-paste, take-append-le, take-take, length-take-le}
-use borrow.Author.Tests.{lt-ltb, le-leb}
 use Rattle.laws.specs.Pick.{pick}
 use Rattle.laws.specs.Lists.{length-part}
 use Rattle.laws.specs.Tests.{Less, less, not-less, less?, AtMost, at-most, above, at-most?, lt-or-ge}
 use Rattle.wire.specs.Places.{pathAt}
 use Rattle.wire.specs.declared.FileAt.{FileAt}
 use Rattle.wire.specs.declared.PathAt.{PathAt}
-use Rattle.entry.specs.Record.{recordOf, recordsIn, putRecord, fieldAt, liesInside, startAt, endAt}
+use Rattle.entry.specs.Record.{recordOf, recordsIn, putRecord, liesInside}
 use Rattle.entry.specs.Laws.{put-is-paste}
-use Rattle.entry.specs.Found.{kept-length, kept-field, kept-inside, put-inside}
+use Rattle.entry.specs.Found.{kept-length, kept-inside, put-inside}
 use Rattle.measure.specs.Entry.{measureAt}
 use Rattle.measure.specs.Inside.{Inside, measured-inside}
 use Rattle.measure.specs.declared.Measured.{Measured}
 use Rattle.measure.specs.declared.Measured.the-variants.{Entry, Short, Fault}
+use Rattle.decode.specs.declared.entries.Before.{Before as Start}
 use Rattle.decode.specs.declared.entries.Answer.{Answer}
 use Rattle.decode.specs.declared.entries.Answer.the-variants.{Done, NotSpelled, NoRoom}
-use Rattle.decode.specs.Entries.{pathOf, marked, Outcome, outcome, onMeasured, run}
+use Rattle.decode.specs.Entries.{pathOf, marked, Outcome, outcome, onMeasured, run, least, readEntries}
+use Rattle.decode.specs.Laws.{least-left, least-small}
 
 -- a run as turns: it is done, or stops at an entry that is not spelled or has no room, or stores an entry and goes on
 pub data Ran (id : ℕ) (s : List ℕ) (end : FileAt) (version : ℕ) : ℕ → ℕ → FileAt → PathAt → Bool → ℕ → Bool → List ℕ → List ℕ → Outcome → Type 0 where
@@ -210,3 +211,14 @@ module _ (id : ℕ) (hid : id ≤ 32) (s : List ℕ) (end : FileAt) (version : �
       next-reached (Done y u z) k = omega arith
       next-reached (NotSpelled y) k = k
       next-reached (NoRoom y) k = k
+
+-- ---- a run whose caller says what is so
+
+module _ (id : ℕ) (s : List ℕ) (end : FileAt) (version n i : ℕ) (at : FileAt) (before : Start) (rs ps : List ℕ) where
+  pub read-is-run : before .used .0 ≤ length ps → before .length ≤ before .used .0 → readEntries id s end version n i at before rs ps ≡ run id s end version n i at (before .used) (before .first) (before .length) false rs ps
+  unfolding readEntries
+  read-is-run h k = rw (← (least-left (before .used .0) (length ps) h), ← (least-left (before .length) (before .used .0) k))
+
+  -- and in any case the run begins in the path store
+  pub read-begins : (least (before .used .0) (length ps) ≤ length ps) × (least (before .length) (least (before .used .0) (length ps)) ≤ least (before .used .0) (length ps))
+  read-begins = (least-small (before .used .0) (length ps) (least (before .used .0) (length ps)) refl, least-small (before .length) (least (before .used .0) (length ps)) (least (before .length) (least (before .used .0) (length ps))) refl)

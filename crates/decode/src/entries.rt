@@ -14,6 +14,9 @@ use measure::Measured;
 use wire::FileAt;
 use wire::PathAt;
 
+// An entry's fixed part but for the id: ten fields of 32 bits and 16 flag bits.
+const SANS_ID: usize = 42;
+
 // Where the extensions begin, if that is told.
 pub enum Extensions {
     From(usize),
@@ -45,7 +48,7 @@ fn min_entry_size_in_bytes(version: u32, id: usize) -> usize
     requires { ⌜ id ≤ 64 ⌝ }
     ensures { λ r. ⌜ r ≡ minEntrySize version id ⌝ }
 {
-    let fixed = 42 + id;
+    let fixed = SANS_ID + id;
     match version {
         4 => fixed + 2,
         _ => (fixed + 7) / 8 * 8,

@@ -1,5 +1,6 @@
 // The header: "DIRC", the version, and how many entries follow.
 ghost use mathlib.Core.Path.{_≡_};
+ghost use Rattle.measure.specs.Entry.{idLength};
 ghost use Rattle.decode.specs.Header.{headerAt};
 
 // Signature, version and count, of four bytes each.
@@ -21,7 +22,7 @@ pub enum Header {
 
 // Reads the header; the three refusals are tried in 01's order.
 pub fn decode(file: &[u8]) -> Header
-    ensures { λ r. ⌜ r ≡ headerAt 20 (now (file .entry)) ⌝ }
+    ensures { λ r. ⌜ r ≡ headerAt idLength (now (file .entry)) ⌝ }
 {
     if file.len() < LEAST {
         return Header::ShortFile;

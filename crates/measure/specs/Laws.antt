@@ -1,5 +1,5 @@
 -- Laws of the measures in the directions that the code's proofs ask, each with the premises that a place of the code knows. Assumes nothing.
-use mathlib.Core.Path.{_≡_, refl, sym, ap, _∙_}
+use mathlib.Core.Path.{_≡_, refl, sym, _∙_}
 use mathlib.Core.Bool.{Bool, true, false}
 use mathlib.Core.List.{List, [], _∷_}
 use Prim.Native.Nat.{ℕ, zero, suc, _+_, _-_, _*_, _/_, _%_, _^_, _≤_, _<_}
@@ -26,7 +26,7 @@ use Rattle.measure.specs.declared.Left.{Left}
 use Rattle.measure.specs.declared.Left.the-variants.{Bytes, TooFew}
 use Rattle.measure.specs.declared.Measured.{Measured}
 use Rattle.measure.specs.declared.Measured.the-variants.{Entry, Short, Fault}
-use Rattle.measure.specs.Entry.{onExtended, extendedAt, headWith, headAt, wholeOf, paddedTo, onEnds, onNumber, onLeft, onHead, paddedAt, keptOf, suffixedAt, compressedAt, measureAt}
+use Rattle.measure.specs.Entry.{onExtended, extendedAt, headWith, headAt, wholeOf, paddedTo, paddedAt, keptOf, suffixedAt, compressedAt, measureAt}
 
 -- ---- the bits after EXTENDED
 module _ (s : List ℕ) (i end kept field : ℕ) where

@@ -2,3 +2,5 @@
 pub mod Entry
 pub mod Laws
 pub mod Inside
+pub mod Settled
+pub mod Open
