@@ -2,5 +2,6 @@
 pub mod Tree
 pub mod Frame
 pub mod Inside
+pub mod Stored
 pub mod Marked
 pub mod Laws
