@@ -1,5 +1,5 @@
 -- What the node store holds where a tree was read: the nodes used are some and lie in the store, the root alone has no parent, every other parent is an earlier node,
--- names lie in the tree's bytes and hold no NUL, counts are -1 to 2^31 - 1; and every byte behind them is as it was. Assumes nothing.
+-- names lie in the tree's bytes and hold no NUL, counts are -1 to 2^31 - 1, sibling names are distinct, subtree counts agree with parents; and every byte behind them is as it was. Assumes nothing.
 use mathlib.Core.Bool.{Bool, true, false}
 use mathlib.Core.Path.{_≡_, refl, sym, ap, subst, _∙_}
 use mathlib.Core.List.{List}
@@ -13,9 +13,10 @@ use Rattle.laws.specs.Tests.{lt-or-ge, AtMost, at-most, above, at-most?, Less, 
 use Rattle.node.specs.declared.Node.{Node}
 use Rattle.node.specs.declared.Head.the-variants.{Is, Nothing}
 use Rattle.node.specs.Head.{countHalf, minusOne, headAt}
-use Rattle.node.specs.Store.{putAt, nameStartAt, nameEndAt, countAt, parentAt}
+use Rattle.node.specs.Store.{putAt, nameStartAt, nameEndAt, countAt, subtreesAt, parentAt}
 use Rattle.node.specs.Spelled.{Spelled, head-spelled}
 use Rattle.node.specs.Laws.{word-same}
+use Rattle.siblings.specs.InOrder.{Distinct}
 use Rattle.tree.specs.declared.Fault.{Fault}
 use Rattle.tree.specs.declared.Fault.the-variants.{Unspelled, Deep, Full}
 use Rattle.tree.specs.declared.Step.{Step}
@@ -24,6 +25,8 @@ use Rattle.tree.specs.declared.TreeAnswer.{TreeAnswer}
 use Rattle.tree.specs.declared.TreeAnswer.the-variants.{Tree, Malformed, TooDeep, NoRoom}
 use Rattle.tree.specs.Tree.{Out, andThen, nodeAt, alone, rootAt, answerOf, wiped, readTree}
 use Rattle.tree.specs.Frame.{Kept, not-read, read-used, put-start, put-stop, put-count, put-parent, node-kept}
+use Rattle.tree.specs.Distinct.{node-apart}
+use Rattle.tree.specs.Tally.{children, node-agree}
 use Rattle.tree.specs.Inside.{Below, node-first, node-inner, parents-below}
 
 -- a node's numbers: its name from b to e, and its count c
@@ -42,6 +45,8 @@ pub record Stored (s : List ℕ) (end u : ℕ) (ns ms : List ℕ) : Type 0 where
   pub root : parentAt ms 0 ≡ minusOne
   pub parents : (j : ℕ) → 0 < j → j < u → parentAt ms j < j
   pub good : (j : ℕ) → j < u → GoodAt s end j ms
+  pub siblings : (k : ℕ) → k < u → Distinct s ms k (k + 1) u
+  pub subtrees : (k : ℕ) → k < u → children ms k (k + 1) u ≡ subtreesAt ms k
   pub long : length ms ≡ length ns
   pub high : (k : ℕ) → u * 72 ≤ k → getD ms k 0 ≡ getD ns k 0
 
@@ -99,6 +104,8 @@ module _ (idLength : ℕ) (fits : idLength ≤ 32) (s : List ℕ) (end : ℕ) (f
           root = node-first idLength fits s end 0 NoParent (λ p j x y z. absurd (omega arith)) RootAt root-local root-put limit minusOne start 0 ns (λ z. refl) store n u e refl;
           parents = λ j h l. parents-below idLength fits s end limit minusOne start 0 ns store n u e j (omega arith) l .1;
           good = λ j l. good-of j l (lt-or-ge 0 j);
+          siblings = λ k l. node-apart idLength fits s end limit minusOne start 0 ns store n u e k (omega arith) l;
+          subtrees = λ k l. node-agree idLength fits s end limit minusOne start 0 ns store n u e k (omega arith) l;
           long = long;
           high = λ k l. kept .high n u e k l;
         }
