@@ -9,7 +9,7 @@ use lib.ListN.{length}
 use lib.Dec.{ltb, eqb}
 use borrow.Author.Tests.{ltb-true, ltb-false, eqb-true, eq-eqb, ne-eqb}
 use Rattle.laws.specs.Pick.{pick}
-use Rattle.laws.specs.Tests.{tri}
+use Rattle.laws.specs.Tests.{tri, lt-or-ge}
 use Rattle.laws.specs.Order.{Before, irreflexive, transitive, Comparison, below, equal, beyond, compared, below-before}
 use Rattle.slices.specs.Bytes.{sameBytes}
 use Rattle.slices.specs.Laws.{same-equal, same-refl}
@@ -57,6 +57,42 @@ module _ (names ns : List ℕ) (parent first used : ℕ) (d : Distinct names ns 
   pub distinct-differ : true ≡ siblingsDiffer names ns parent first used
   unfolding siblingsDiffer
   distinct-differ = sym (rw (any-false (repeats names ns parent first) (used - first) first (λ i h k. no-repeat i h (omega arith))))
+
+-- ---- the search finds what is there
+
+any-true : (p : ℕ → Bool) (f i k : ℕ) → i ≤ k → k < i + f → p k ≡ true → anyIn p f i ≡ true
+unfolding anyIn
+any-true p zero i k h l e = absurd (omega arith)
+any-true p (suc f) i k h l e = ⊎-elim (λ m. by (p i) (any-true p f (i + 1) k (omega arith) (omega arith) e)) (λ m. let z : k ≡ i = omega arith in rw (← z, e)) (lt-or-ge i k)
+  where
+    by : (t : Bool) → anyIn p f (i + 1) ≡ true → pick t true (anyIn p f (i + 1)) ≡ true
+    by true q = refl
+    by false q = q
+
+twin-is : (names ns : List ℕ) (parent i j : ℕ) → parentAt ns j ≡ parent → nameAt names ns i ≡ nameAt names ns j → twin names ns parent i j ≡ true
+unfolding twin
+twin-is names ns parent i j q e = rw (eq-eqb (parentAt ns j) parent q, e) (same-refl (nameAt names ns j))
+
+repeats-is : (names ns : List ℕ) (parent first i j : ℕ) → parentAt ns i ≡ parent → first ≤ j → j < i → twin names ns parent i j ≡ true → repeats names ns parent first i ≡ true
+unfolding repeats
+repeats-is names ns parent first i j p h k t = rw (eq-eqb (parentAt ns i) parent p) (any-true (twin names ns parent i) (i - first) first j h (omega arith) t)
+
+-- where the answer is yes, the names are distinct
+pub differ-distinct : (names ns : List ℕ) (parent first used : ℕ) → siblingsDiffer names ns parent first used ≡ true → Distinct names ns parent first used
+unfolding siblingsDiffer
+differ-distinct names ns parent first used d i j h k l p q e =
+    let t : twin names ns parent i j ≡ true = twins in
+    let r : repeats names ns parent first i ≡ true = repeated t in
+    let s : anyIn (repeats names ns parent first) (used - first) first ≡ true = any-true (repeats names ns parent first) (used - first) first i (omega arith) (omega arith) r in
+    let never : pick (anyIn (repeats names ns parent first) (used - first) first) false true ≡ false = rw s in
+    let z : _≡_ {A = ℕ} 0 1 = cc in
+    omega arith
+  where
+    twins : twin names ns parent i j ≡ true
+    twins = twin-is names ns parent i j q e
+
+    repeated : twin names ns parent i j ≡ true → repeats names ns parent first i ≡ true
+    repeated t = repeats-is names ns parent first i j p h k t
 
 -- ---- children in strict order
 

@@ -41,7 +41,7 @@ module _ (idLength : ℕ) (fits : idLength ≤ 32) (s : List ℕ) (end least : �
       ⊎-elim (λ p. stays u u ms (k n u ms) (keeps n u ms) j p (h n u refl j l p)) (λ p. next n u ms (kept .long) (kept .onward n u refl) n′ u′ e j p m) (lt-or-ge j u)
   then-holds used from a ns (Stops f, ms) k kept h keeps next n′ u′ e j l m = absurd (not-read f n′ u′ e)
 
-  kids-hold : (f : ℕ → ℕ → List ℕ → Out) (me : ℕ) → ((at used : ℕ) (ns : List ℕ) → Kept used (used + 1) ns (f at used ns))
+  pub kids-hold : (f : ℕ → ℕ → List ℕ → Out) (me : ℕ) → ((at used : ℕ) (ns : List ℕ) → Kept used (used + 1) ns (f at used ns))
       → ((at used : ℕ) (ns : List ℕ) → me < used → length ns < 256 ^ 8 → Holds used (f at used ns)) → (l at used : ℕ) (ns : List ℕ) → me < used → length ns < 256 ^ 8 → Holds used (kids f l at used ns)
   unfolding kids
   kids-hold f me a b zero at used ns h k n u e j l m = absurd (omega (arith, read-used at used n u e))
@@ -86,7 +86,7 @@ module _ (idLength : ℕ) (fits : idLength ≤ 32) (s : List ℕ) (end least : �
       by (above h) e = body-first at (nodeAt idLength s end d) (λ p a u ms. node-kept idLength fits s end d p a u ms) parent used ns h long l (headAt idLength s at end) refl n u e
 
   -- of the node, and of all below it
-  from-first : (d parent at used : ℕ) (ns : List ℕ) → Q parent used → length ns < 256 ^ 8 → Holds (used + 1) (nodeAt idLength s end d parent at used ns) → Holds used (nodeAt idLength s end d parent at used ns)
+  pub from-first : (d parent at used : ℕ) (ns : List ℕ) → Q parent used → length ns < 256 ^ 8 → Holds (used + 1) (nodeAt idLength s end d parent at used ns) → Holds used (nodeAt idLength s end d parent at used ns)
   from-first d parent at used ns l long h n u e j x y =
       ⊎-elim (λ p. h n u e j (omega arith) y) (λ p. let q : used ≡ j = omega arith in subst (λ (i : ℕ). P i (nodeAt idLength s end d parent at used ns .1)) q (node-first d parent at used ns l long n u e)) (lt-or-ge used j)
 

@@ -1,9 +1,8 @@
+-- `node::ended` meets its contract. Each answer is a case of the definition. Assumes nothing.
 use Rattle.node.specs.Laws.{heads}
 use borrow.Author.Needs.{needs}
 use Rattle.node.proofs.ended.Statement.{statement}
 use Rattle.node.proofs.ended.Tie as tie
-use Rattle.node.proofs.ended.Reads as reads
-use Rattle.node.proofs.ended.Lts as lts
 
 enum-told : tie.Need-enum-told
 enum-told c = search (heads, needs)

@@ -1,9 +1,8 @@
+-- `node::id` meets its contract. Assumes nothing.
 use Rattle.node.specs.Laws.{stores}
 use borrow.Author.Needs.{needs}
 use Rattle.node.proofs.id.Statement.{statement}
 use Rattle.node.proofs.id.Tie as tie
-use Rattle.node.proofs.id.Reads as reads
-use Rattle.node.proofs.id.Lts as lts
 
 mul-from : tie.Need-mul-from
 mul-from c = search (stores, needs)

@@ -1,10 +1,8 @@
+-- `node::name` meets its contract. Assumes nothing.
 use Rattle.node.specs.Laws.{stores}
 use borrow.Author.Needs.{needs}
 use Rattle.node.proofs.name.Statement.{statement}
 use Rattle.node.proofs.name.Tie as tie
-use Rattle.node.proofs.name.Reads as reads
-use Rattle.node.proofs.name.Lts as lts
-use Rattle.node.proofs.word.Reads as word-reads
 
 word-requires : tie.Need-word-requires
 word-requires c κs = search (stores, needs)

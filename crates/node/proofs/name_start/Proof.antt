@@ -1,10 +1,8 @@
+-- `node::name_start` meets its contract. Assumes nothing.
 use Rattle.node.specs.Laws.{stores}
 use borrow.Author.Needs.{needs}
 use Rattle.node.proofs.name_start.Statement.{statement}
 use Rattle.node.proofs.name_start.Tie as tie
-use Rattle.node.proofs.name_start.Reads as reads
-use Rattle.node.proofs.name_start.Lts as lts
-use Rattle.node.proofs.word.Reads as word-reads
 
 word-requires : tie.Need-word-requires
 word-requires c κs = search (stores, needs)

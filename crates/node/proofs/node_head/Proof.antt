@@ -1,14 +1,9 @@
+-- `node::node_head` meets its contract. The NUL that ends the name lies before the end, so that the place behind it fits. Assumes nothing.
 use Rattle.node.specs.Laws.{heads, stop-less}
 use native.Mathlib.Omega.{arith}
 use borrow.Author.Needs.{needs}
 use Rattle.node.proofs.node_head.Statement.{statement}
 use Rattle.node.proofs.node_head.Tie as tie
-use Rattle.node.proofs.node_head.Reads as reads
-use Rattle.node.proofs.node_head.Lts as lts
-use Rattle.node.proofs.ended.Reads as ended-reads
-use Rattle.node.proofs.spaced.Reads as spaced-reads
-use Rattle.slices.proofs.first_nul.Reads as first-nul-reads
-use Rattle.wire.proofs.signed_digits.Reads as signed-digits-reads
 
 returns : tie.Need-returns
 returns c = search (heads, needs)

@@ -1,11 +1,8 @@
+-- `node::put_node` meets its contract. The numbers and the id, made in an array, are pasted as one. Assumes nothing.
 use Rattle.node.specs.Laws.{puts}
 use borrow.Author.Needs.{needs}
 use Rattle.node.proofs.put_node.Statement.{statement}
 use Rattle.node.proofs.put_node.Tie as tie
-use Rattle.node.proofs.put_node.Reads as reads
-use Rattle.node.proofs.put_node.Lts as lts
-use Rattle.node.proofs.put_numbers.Reads as put-numbers-reads
-use Rattle.slices.proofs.copy_bytes.Reads as copy-bytes-reads
 
 returns : tie.Need-returns
 returns c = search (puts, needs)

@@ -1,10 +1,8 @@
+-- `node::put_numbers` meets its contract. Five pastes side by side are one. Assumes nothing.
 use Rattle.node.specs.Laws.{numbers-put}
 use borrow.Author.Needs.{needs}
 use Rattle.node.proofs.put_numbers.Statement.{statement}
 use Rattle.node.proofs.put_numbers.Tie as tie
-use Rattle.node.proofs.put_numbers.Reads as reads
-use Rattle.node.proofs.put_numbers.Lts as lts
-use Rattle.wire.proofs.put64.Reads as put64-reads
 
 put64-requires : tie.Need-put64-requires
 put64-requires c κs = search needs

@@ -1,10 +1,8 @@
+-- `node::spaced` meets its contract. Assumes nothing.
 use Rattle.node.specs.Laws.{heads}
 use borrow.Author.Needs.{needs}
 use Rattle.node.proofs.spaced.Statement.{statement}
 use Rattle.node.proofs.spaced.Tie as tie
-use Rattle.node.proofs.spaced.Reads as reads
-use Rattle.node.proofs.spaced.Lts as lts
-use Rattle.wire.proofs.digits.Reads as digits-reads
 
 returns : tie.Need-returns
 returns c = search (heads, needs)

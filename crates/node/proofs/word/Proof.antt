@@ -1,10 +1,8 @@
+-- `node::word` meets its contract. Assumes nothing.
 use Rattle.node.specs.Laws.{stores}
 use borrow.Author.Needs.{needs}
 use Rattle.node.proofs.word.Statement.{statement}
 use Rattle.node.proofs.word.Tie as tie
-use Rattle.node.proofs.word.Reads as reads
-use Rattle.node.proofs.word.Lts as lts
-use Rattle.wire.proofs.be64.Reads as be64-reads
 
 mul-be64 : tie.Need-mul-be64
 mul-be64 c = search (stores, needs)

@@ -1,3 +1,4 @@
+-- `siblings::comes_before` meets its contract. The invariant: what is left to compare answers what the whole does. Assumes nothing.
 use mathlib.Core.Path.{_≡_}
 use Prim.Native.Nat.{_≤_, _-_}
 use lib.ListN.{length, drop}
@@ -6,8 +7,6 @@ use borrow.Author.Needs.{needs}
 use Rattle.siblings.specs.Laws.{compares}
 use Rattle.siblings.proofs.comes_before.Statement.{statement}
 use Rattle.siblings.proofs.comes_before.Tie as tie
-use Rattle.siblings.proofs.comes_before.Reads as reads
-use Rattle.siblings.proofs.comes_before.Lts as lts
 
 abbrev Inv-loop : tie.InvT-loop
 Inv-loop a b i₀ i = (i ≤ length a) × (before (drop i a) (drop i b) ≡ before a b)

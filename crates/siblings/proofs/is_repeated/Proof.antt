@@ -1,3 +1,4 @@
+-- `siblings::is_repeated` meets its contract. The invariant: what is left of the search answers what the whole does. Assumes nothing.
 use mathlib.Core.Path.{_≡_}
 use Prim.Native.Nat.{_-_}
 use Rattle.siblings.specs.Siblings.{anyIn, twin, repeats}
@@ -5,10 +6,6 @@ use borrow.Author.Needs.{needs}
 use Rattle.siblings.specs.Laws.{searches}
 use Rattle.siblings.proofs.is_repeated.Statement.{statement}
 use Rattle.siblings.proofs.is_repeated.Tie as tie
-use Rattle.siblings.proofs.is_repeated.Reads as reads
-use Rattle.siblings.proofs.is_repeated.Lts as lts
-use Rattle.node.proofs.parent.Reads as parent-reads
-use Rattle.siblings.proofs.is_twin.Reads as is-twin-reads
 
 abbrev Inv-loop : tie.InvT-loop
 Inv-loop file nodes parent first i p j₀ j = anyIn (twin file nodes parent i) (i - j) j ≡ repeats file nodes parent first i

@@ -1,11 +1,8 @@
+-- `siblings::is_twin` meets its contract. Assumes nothing.
 use Rattle.siblings.specs.Laws.{searches}
 use borrow.Author.Needs.{needs}
 use Rattle.siblings.proofs.is_twin.Statement.{statement}
 use Rattle.siblings.proofs.is_twin.Tie as tie
-use Rattle.siblings.proofs.is_twin.Reads as reads
-use Rattle.siblings.proofs.is_twin.Lts as lts
-use Rattle.node.proofs.parent.Reads as parent-reads
-use Rattle.siblings.proofs.same_name.Reads as same-name-reads
 
 parent-requires : tie.Need-parent-requires
 parent-requires c κs = search (searches, needs)

@@ -1,13 +1,8 @@
+-- `siblings::rises` meets its contract. Assumes nothing.
 use Rattle.siblings.specs.Laws.{rises}
 use borrow.Author.Needs.{needs}
 use Rattle.siblings.proofs.rises.Statement.{statement}
 use Rattle.siblings.proofs.rises.Tie as tie
-use Rattle.siblings.proofs.rises.Reads as reads
-use Rattle.siblings.proofs.rises.Lts as lts
-use Rattle.node.proofs.name.Reads as name-reads
-use Rattle.siblings.proofs.ahead_in_git.Reads as ahead-in-git-reads
-use Rattle.siblings.proofs.both.Reads as both-reads
-use Rattle.siblings.proofs.comes_before.Reads as comes-before-reads
 
 returns : tie.Need-returns
 returns c = search (rises, needs)

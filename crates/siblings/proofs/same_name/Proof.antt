@@ -1,11 +1,8 @@
+-- `siblings::same_name` meets its contract. Names of different lengths differ. Assumes nothing.
 use Rattle.siblings.specs.Laws.{searches}
 use borrow.Author.Needs.{needs}
 use Rattle.siblings.proofs.same_name.Statement.{statement}
 use Rattle.siblings.proofs.same_name.Tie as tie
-use Rattle.siblings.proofs.same_name.Reads as reads
-use Rattle.siblings.proofs.same_name.Lts as lts
-use Rattle.node.proofs.name.Reads as name-reads
-use Rattle.slices.proofs.same.Reads as same-reads
 
 name-requires : tie.Need-name-requires
 name-requires c κs = search (searches, needs)

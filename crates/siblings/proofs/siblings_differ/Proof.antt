@@ -1,3 +1,4 @@
+-- `siblings::siblings_differ` meets its contract. The invariant: what is left of the search answers what the whole does. Assumes nothing.
 use mathlib.Core.Path.{_≡_}
 use mathlib.Core.Bool.{true, false}
 use Prim.Native.Nat.{_-_}
@@ -7,9 +8,6 @@ use borrow.Author.Needs.{needs}
 use Rattle.siblings.specs.Laws.{searches}
 use Rattle.siblings.proofs.siblings_differ.Statement.{statement}
 use Rattle.siblings.proofs.siblings_differ.Tie as tie
-use Rattle.siblings.proofs.siblings_differ.Reads as reads
-use Rattle.siblings.proofs.siblings_differ.Lts as lts
-use Rattle.siblings.proofs.is_repeated.Reads as is-repeated-reads
 
 abbrev Inv-loop : tie.InvT-loop
 Inv-loop file nodes parent first used i₀ i = pick (anyIn (repeats file nodes parent first) (used - i) i) false true ≡ siblingsDiffer file nodes parent first used

@@ -1,12 +1,8 @@
+-- `tree::read_tree` meets its contract. Assumes nothing.
 use Rattle.tree.specs.Laws.{roots}
 use borrow.Author.Needs.{needs}
 use Rattle.tree.proofs.read_tree.Statement.{statement}
 use Rattle.tree.proofs.read_tree.Tie as tie
-use Rattle.tree.proofs.read_tree.Reads as reads
-use Rattle.tree.proofs.read_tree.Lts as lts
-use Rattle.slices.proofs.clear.Reads as clear-reads
-use Rattle.tree.proofs.answer.Reads as answer-reads
-use Rattle.tree.proofs.root.Reads as root-reads
 
 root-requires : tie.Need-root-requires
 root-requires c κs = search (roots, needs)

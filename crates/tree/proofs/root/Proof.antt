@@ -1,10 +1,8 @@
+-- `tree::root` meets its contract. Assumes nothing.
 use Rattle.tree.specs.Laws.{roots}
 use borrow.Author.Needs.{needs}
 use Rattle.tree.proofs.root.Statement.{statement}
 use Rattle.tree.proofs.root.Tie as tie
-use Rattle.tree.proofs.root.Reads as reads
-use Rattle.tree.proofs.root.Lts as lts
-use Rattle.tree.proofs.one_recursive.Reads as one-recursive-reads
 
 returns : tie.Need-returns
 returns c = search (roots, needs)

@@ -1,10 +1,8 @@
+-- `tree::settle` meets its contract. Either order settles the names. Assumes nothing.
 use Rattle.tree.specs.Laws.{settles}
 use borrow.Author.Needs.{needs}
 use Rattle.tree.proofs.settle.Statement.{statement}
 use Rattle.tree.proofs.settle.Tie as tie
-use Rattle.tree.proofs.settle.Reads as reads
-use Rattle.tree.proofs.settle.Lts as lts
-use Rattle.siblings.proofs.siblings_differ.Reads as siblings-differ-reads
 
 returns : tie.Need-returns
 returns c = search (settles, needs)
