@@ -34,8 +34,9 @@ fn show_argument(i: usize) {
 }
 
 fn main() {
+    let n = os::arg_count();
     let mut i: usize = 1;
-    while i < os::arg_count() {
+    while i < n {
         show_argument(i);
         i += 1;
     }
