@@ -9,7 +9,7 @@ use Rattle.file.specs.Answer.{numberOf, carriesOf, carriedOf}
 use Rattle.file.specs.Read.{Outcome, readFile}
 use Rattle.file.specs.declared.Answer.{Answer}
 use Rattle.file.specs.declared.Answer.the-variants.{Read, ShortFile, NoSignature, OtherVersion, BadTrailer, NotSpelled, NoEntryRoom, NotFilled, Mandatory, TooDeep, NoNodeRoom}
-use Rattle.listing.specs.Lines.{space, newline, linesFrom, refusedText}
+use Rattle.lines.specs.Lines.{space, newline, linesFrom, refusedText}
 
 -- how many records were read; none by a refusal
 abbrev pub recordsOf : Answer → ℕ

@@ -1,0 +1,2 @@
+-- The modules of lines that proofs cite.
+pub mod Laws
