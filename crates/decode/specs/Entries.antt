@@ -12,7 +12,7 @@ use Rattle.wire.specs.declared.FileAt.{FileAt}
 use Rattle.wire.specs.declared.PathAt.{PathAt}
 use Rattle.refusal.specs.Refusal.{not-spelled, no-entry-room}
 use Rattle.entry.specs.Mode.{dirAt}
-use Rattle.entry.specs.Record.{recordSize, recordsIn, recordOf}
+use Rattle.entry.specs.Record.{recordsIn, putRecord}
 use Rattle.measure.specs.Entry.{measureAt}
 use Rattle.measure.specs.declared.Measured.{Measured}
 use Rattle.measure.specs.declared.Measured.the-variants.{Entry, Short, Fault}
@@ -39,14 +39,12 @@ pathOf s ps keep suffix len prev used = take keep (drop (used - prev) ps) ++ tak
 unfoldable pub marked : List ℕ → ℕ → Bool → Bool
 marked s at sparse = pick (dirAt s at) true sparse
 
--- where an entry can be stored
-pub record Room (s rs ps : List ℕ) (at keep suffix len prev used i : ℕ) : Type 0 where
-  pub file : at + 62 ≤ length s
+-- where a path can be stored
+pub record Room (s ps : List ℕ) (keep suffix len prev used : ℕ) : Type 0 where
   pub text : suffix + len ≤ length s
   pub keeps : keep ≤ prev
   pub before : prev ≤ used
   pub paths : used + (keep + len) ≤ length ps
-  pub slot : i * 96 + 96 ≤ length rs
 
 -- what reading comes to: the answer, and what the two stores hold
 pub record Outcome : Type 0 where
@@ -72,7 +70,7 @@ run id s end version (suc n) i at used first prev sparse rs ps =
     pick (leb (recordsIn rs) i) (outcome (NoRoom i) rs ps)
     (pick (ltb (length ps - used .0) (keep + len)) (outcome (NoRoom i) rs ps)
     (run id s end version n (i + 1) next (pathAt (used .0 + (keep + len))) false (keep + len) (marked s (at .0) sparse)
-    (paste rs (i * recordSize) (recordOf id s (at .0) flags (used .0) (used .0 + (keep + len))) recordSize)
+    (putRecord id s (at .0) flags (used .0) (used .0 + (keep + len)) rs i)
     (paste ps (used .0) (pathOf s ps keep (suffix .0) len prev (used .0)) (keep + len)))))
 
 unfoldable pub least : ℕ → ℕ → ℕ

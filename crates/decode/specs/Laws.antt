@@ -16,8 +16,7 @@ use Rattle.wire.specs.BigEndian.{beAt}
 use Rattle.wire.specs.declared.FileAt.{FileAt}
 use Rattle.wire.specs.declared.PathAt.{PathAt}
 use Rattle.entry.specs.Mode.{dirAt}
-use Rattle.entry.specs.Record.{recordOf, putRecord}
-use Rattle.entry.specs.Laws.{put-is-paste}
+use Rattle.entry.specs.Record.{putRecord}
 use Rattle.measure.specs.Entry.{measureAt}
 use Rattle.measure.specs.Inside.{Inside, measured-inside}
 use Rattle.measure.specs.declared.Measured.{Measured}
@@ -117,9 +116,6 @@ least-small a b r e = by (ltb b a) refl e
     by false w q = omega (arith, ltb-false b a w)
 
 -- ---- one entry stored
-pub record-put : (s rs r : List ℕ) (i keep suffix len prev used k flags stop : ℕ) (ps : List ℕ) → Room s rs ps i keep suffix len prev used k → r ≡ putRecord 20 s i flags used stop rs k → r ≡ paste rs (k * 96) (recordOf 20 s i flags used stop) 96
-record-put s rs r i keep suffix len prev used k flags stop ps room e = e ∙ put-is-paste 20 s i flags used stop rs k (omega (arith, room .file)) (room .slot)
-
 pub path-put : (s ps p₁ p₂ : List ℕ) (keep suffix len prev used : ℕ) → p₁ ≡ paste ps used (drop (used - prev) ps) keep → p₂ ≡ paste p₁ (used + keep) (drop suffix s) len
     → keep ≤ prev → prev ≤ used → used + (keep + len) ≤ length ps → suffix + len ≤ length s → p₂ ≡ paste ps used (pathOf s ps keep suffix len prev used) (keep + len)
 unfolding pathOf
@@ -169,7 +165,7 @@ module _ (s : List ℕ) (end : FileAt) (version n i : ℕ) (at : FileAt) (used :
         run-long l = sym (rw (← e, q, lt-leb (length rs / 96) i slot, lt-ltb (length ps - used .0) (keep + len) l)) ∙ one-more
 
         module _ (l : keep + len ≤ length ps - used .0) where
-          pub run-next : (rs′ ps′ : List ℕ) (sparse′ : Bool) → rs′ ≡ paste rs (i * 96) (recordOf 20 s (at .0) flags (used .0) (used .0 + (keep + len))) 96 → ps′ ≡ paste ps (used .0) (pathOf s ps keep (suffix .0) len prev (used .0)) (keep + len) → sparse′ ≡ marked s (at .0) sparse
+          pub run-next : (rs′ ps′ : List ℕ) (sparse′ : Bool) → rs′ ≡ putRecord 20 s (at .0) flags (used .0) (used .0 + (keep + len)) rs i → ps′ ≡ paste ps (used .0) (pathOf s ps keep (suffix .0) len prev (used .0)) (keep + len) → sparse′ ≡ marked s (at .0) sparse
               → run 20 s end version (n - 1) (i + 1) next (pathAt (used .0 + (keep + len))) false (keep + len) sparse′ rs′ ps′ ≡ r
           unfolding run
           run-next rs′ ps′ sparse′ a b c =
@@ -177,17 +173,17 @@ module _ (s : List ℕ) (end : FileAt) (version n i : ℕ) (at : FileAt) (used :
               ∙ sym (rw (← e, q, lt-leb (length rs / 96) i slot, le-ltb (length ps - used .0) (keep + len) l)) ∙ one-more
 
 -- what is known of an entry that was measured
-module _ (s : List ℕ) (end : FileAt) (version i : ℕ) (at : FileAt) (used : ℕ) (first : Bool) (prev : ℕ) (rs ps : List ℕ) (m : Measured) (e : m ≡ measureAt 20 s (at .0) (end .0) version first prev) (flags keep : ℕ) (suffix : FileAt) (len : ℕ) (next : FileAt) (q : m ≡ Entry flags keep suffix len next) where
+module _ (s : List ℕ) (end : FileAt) (version : ℕ) (at : FileAt) (used : ℕ) (first : Bool) (prev : ℕ) (ps : List ℕ) (m : Measured) (e : m ≡ measureAt 20 s (at .0) (end .0) version first prev) (flags keep : ℕ) (suffix : FileAt) (len : ℕ) (next : FileAt) (q : m ≡ Entry flags keep suffix len next) where
   inside : Inside 20 s (at .0) (end .0) prev keep suffix len next
   inside = measured-inside 20 s (at .0) (end .0) version first prev flags keep suffix len next m e q
 
   pub run-size : prev ≤ used → used ≤ length ps → keep + len ≤ length ps + length s
   run-size a b = let h : Inside 20 s (at .0) (end .0) prev keep suffix len next = inside in omega arith
 
-  pub run-room : prev ≤ used → used ≤ length ps → (rs₀ : List ℕ) → length rs ≡ length rs₀ → i < length rs₀ / 96 → keep + len ≤ length ps - used → Room s rs ps (at .0) keep (suffix .0) len prev used i
-  run-room a b rs₀ same h l =
+  pub run-room : prev ≤ used → used ≤ length ps → keep + len ≤ length ps - used → Room s ps keep (suffix .0) len prev used
+  run-room a b l =
       let k : Inside 20 s (at .0) (end .0) prev keep suffix len next = inside in
-      record { file = omega arith; text = omega arith; keeps = omega arith; before = a; paths = omega arith; slot = omega arith }
+      record { text = omega arith; keeps = omega arith; before = a; paths = omega arith }
 
 -- ---- from what a caller says
 pub run-clamped : (s : List ℕ) (end : FileAt) (version n i : ℕ) (at : FileAt) (before : Before) (rs ps : List ℕ) (used prev : ℕ) (r : Outcome) → used ≡ least (before .used .0) (length ps) → prev ≡ least (before .length) used
@@ -205,4 +201,4 @@ pub record State (s : List ℕ) (end : FileAt) (version : ℕ) (rs₀ ps₀ : Li
 
 pub ruleset fronts = (header-short, header-unsigned, header-known, header-below, header-above, block-from, block-whole, most-is, least-four, least-other, least-right, least-left)
 
-pub ruleset laws = (record-put, path-put, mark-dir, mark-none, run-done, run-short, run-fault, run-full, run-long, run-next, run-room, run-clamped)
+pub ruleset laws = (path-put, mark-dir, mark-none, run-done, run-short, run-fault, run-full, run-long, run-next, run-room, run-clamped)

@@ -3,4 +3,5 @@ pub mod Header
 pub mod Bounds
 pub mod Entries
 pub mod Laws
+pub mod Stores
 pub mod Marked

@@ -11,7 +11,8 @@ use Rattle.wire.specs.declared.Number.{Number}
 use Rattle.wire.specs.declared.Number.the-variants.{Is, Cut, Over}
 use Rattle.measure.specs.declared.Measured.{Measured}
 use Rattle.measure.specs.declared.Measured.the-variants.{Entry, Short, Fault}
-use Rattle.measure.specs.Entry.{idLength, extendedPasses, extendedAt, headWith, headAt, wholeOf, paddedTo, paddedAt, keptOf, suffixedAt, compressedAt, measureAt}
+use Rattle.entry.specs.Flags.{extendedToMemory}
+use Rattle.measure.specs.Entry.{idLength, extendedAt, headWith, headAt, wholeOf, paddedTo, paddedAt, keptOf, suffixedAt, compressedAt, measureAt}
 use Rattle.decode.specs.declared.entries.Extensions.the-variants.{NotTold}
 use Rattle.decode.specs.Bounds.{blockSize, minEntrySize, maxEntries}
 
@@ -106,5 +107,5 @@ rows =
     ∷ []
 
 pub marked : map (λ (r : Row). answer (r .asked)) rows ≡ map (λ (r : Row). r .answers) rows
-unfolding rows row pair pear ear answer measureAt headAt headWith extendedAt extendedPasses beAt paddedAt paddedTo wholeOf nulAt nulIn compressedAt keptOf suffixedAt numberAt groupsIn maxEntries blockSize minEntrySize
+unfolding rows row pair pear ear answer measureAt headAt headWith extendedAt extendedToMemory beAt paddedAt paddedTo wholeOf nulAt nulIn compressedAt keptOf suffixedAt numberAt groupsIn maxEntries blockSize minEntrySize
 marked = refl

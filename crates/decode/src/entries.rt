@@ -6,7 +6,7 @@ ghost use Prim.Native.Nat.{_+_, _-_, _*_, _≤_};
 ghost use lib.ListN.{length};
 ghost use lib.Seq.{paste};
 ghost use Rattle.wire.specs.Places.{pathAt};
-ghost use Rattle.entry.specs.Record.{recordOf};
+ghost use Rattle.entry.specs.Record.{putRecord};
 ghost use Rattle.measure.specs.Entry.{idLength};
 ghost use Rattle.decode.specs.Bounds.{blockSize, minEntrySize, maxEntries};
 ghost use Rattle.decode.specs.Entries.{Room, pathOf, marked, least, outcome, run, readEntries};
@@ -93,8 +93,8 @@ fn store(
     paths: &mut [u8],
     i: usize,
 )
-    requires { ⌜ Room (now file) (now records) (now paths) at keep suffix len prev used i ⌝ }
-    ensures { λ _. ⌜ now (records .exit) ≡ paste (now (records .entry)) (i * 96) (recordOf 20 (now (file .entry)) at flags used (used + (keep + len))) 96 ⌝ }
+    requires { ⌜ Room (now file) (now paths) keep suffix len prev used ⌝ }
+    ensures { λ _. ⌜ now (records .exit) ≡ putRecord idLength (now (file .entry)) at flags used (used + (keep + len)) (now (records .entry)) i ⌝ }
     ensures { λ _. ⌜ now (paths .exit) ≡ paste (now (paths .entry)) used (pathOf (now (file .entry)) (now (paths .entry)) keep suffix len prev used) (keep + len) ⌝ }
 {
     let from = used - prev;

@@ -1,7 +1,7 @@
 -- How one entry is measured, over the length of an id (01, How an entry is spelled): its fixed part, the padded path of versions 2 and 3, the stripped path of
 -- version 4. An entry that is not spelled is Short where a longer space with the same bytes in front could spell it, and a Fault where none could. Assumes nothing.
 use Prim.Native.Nat.{ℕ, _+_, _-_, _*_, _/_, _%_, _≤_, _<_}
-use mathlib.Core.Bool.{Bool, false}
+use mathlib.Core.Bool.{Bool}
 use mathlib.Core.List.{List}
 use lib.ListN.{length, getD}
 use lib.Dec.{ltb, eqb}
@@ -14,16 +14,20 @@ use Rattle.wire.specs.BigEndian.{beAt}
 use Rattle.wire.specs.Groups.{numberAt}
 use Rattle.wire.specs.declared.Number.{Number}
 use Rattle.wire.specs.declared.Number.the-variants.{Is, Cut, Over}
+use Rattle.entry.specs.Layout.{idSize}
+use Rattle.entry.specs.Flags.{bit, extended, toMemory, extendedToMemory}
+use Rattle.entry.specs.declared.flags.Extended.{Extended}
+use Rattle.entry.specs.declared.flags.Extended.the-variants.{Kept, Unknown}
 use Rattle.measure.specs.declared.Head.{Head}
 use Rattle.measure.specs.declared.Head.the-variants.{Fixed, Unfinished, Spoiled}
-use Rattle.measure.specs.declared.Kept.{Kept}
-use Rattle.measure.specs.declared.Kept.the-variants.{Bytes, TooFew}
+use Rattle.measure.specs.declared.Left.{Left}
+use Rattle.measure.specs.declared.Left.the-variants.{Bytes, TooFew}
 use Rattle.measure.specs.declared.Measured.{Measured}
 use Rattle.measure.specs.declared.Measured.the-variants.{Entry, Short, Fault}
 
 -- SHA-1's ids
 abbrev pub idLength : ℕ
-idLength = 20
+idLength = idSize
 
 -- ten fields of 32 bits and an id stand before the flags
 abbrev pub flagsAt : ℕ → ℕ
@@ -40,22 +44,22 @@ extendedSize id = 44 + id
 abbrev pub toNul : ℕ
 toNul = 4095
 
--- of the 16 bits after EXTENDED only bits 13 and 14 may be set
-unfoldable pub extendedPasses : ℕ → Bool
-extendedPasses word = pick (ltb 32767 word) false (eqb (word % 8192) 0)
+abbrev pub onExtended : Extended → Head → (ℕ → Head) → Head
+onExtended (Kept bits) bad good = good bits
+onExtended Unknown bad good = bad
 
--- the bits after EXTENDED, at a place: they become bits 29 and 30. Where only their first byte is there, it may spoil them already
+-- the bits after EXTENDED, at a place. Where only their first byte is there, it may spoil them already
 unfoldable pub extendedAt : ℕ → List ℕ → ℕ → ℕ → ℕ → ℕ → Head
 extendedAt id s at end kept field =
     pick (ltb (end - at) 1) Unfinished
-    (pick (ltb (end - at) 2) (pick (extendedPasses (getD s at 0 * 256)) Unfinished Spoiled)
-    (pick (extendedPasses (beAt 2 s at)) (Fixed (kept + beAt 2 s at * 65536) (extendedSize id) field) Spoiled))
+    (pick (ltb (end - at) 2) (onExtended (extendedToMemory (getD s at 0 * 256)) Spoiled (λ bits. Unfinished))
+    (onExtended (extendedToMemory (beAt 2 s at)) Spoiled (λ bits. Fixed (kept + bits) (extendedSize id) field)))
 
--- from the 16 flag bits: bit 14 is EXTENDED, the low 12 are the path's length, and the upper four are kept
+-- from the 16 flag bits, of which the low 12 are the length field
 unfoldable pub headWith : ℕ → List ℕ → ℕ → ℕ → ℕ → Head
-headWith id s at end bits =
-    pick (eqb (bits / 16384 % 2) 0) (Fixed (bits / 4096 * 4096) (plainSize id) (bits % 4096))
-    (extendedAt id s (at + plainSize id) end (bits / 4096 * 4096) (bits % 4096))
+headWith id s at end word =
+    pick (bit extended (toMemory word)) (extendedAt id s (at + plainSize id) end (toMemory word) (word % 4096))
+    (Fixed (toMemory word) (plainSize id) (word % 4096))
 
 unfoldable pub headAt : ℕ → List ℕ → ℕ → ℕ → Head
 headAt id s at end =
@@ -87,9 +91,9 @@ onNumber (Is v e) good part over = good v e
 onNumber (Cut a) good part over = part a
 onNumber Over good part over = over
 
-abbrev pub onKept : Kept → Measured → (ℕ → Measured) → Measured
-onKept (Bytes n) few good = good n
-onKept TooFew few good = few
+abbrev pub onLeft : Left → Measured → (ℕ → Measured) → Measured
+onLeft (Bytes n) few good = good n
+onLeft TooFew few good = few
 
 abbrev pub onHead : Head → Measured → Measured → (ℕ → ℕ → ℕ → Measured) → Measured
 onHead (Fixed flags size field) short fault good = good flags size field
@@ -104,7 +108,7 @@ paddedAt s at end flags size field =
     (paddedTo at end flags size field)
 
 -- how many bytes stay of a path of prev bytes that loses `strip`; the first entry has no path before it, and its strip is ignored
-unfoldable pub keptOf : Bool → ℕ → ℕ → Kept
+unfoldable pub keptOf : Bool → ℕ → ℕ → Left
 keptOf first prev strip = pick first (Bytes 0) (pick (ltb prev strip) TooFew (Bytes (prev - strip)))
 
 -- a suffix to a NUL, after `keep` bytes of the path before
@@ -115,8 +119,8 @@ suffixedAt s from end flags keep = onEnds (nulAt s from end) Short (λ z. Entry 
 unfoldable pub compressedAt : List ℕ → ℕ → ℕ → ℕ → Bool → ℕ → Measured
 compressedAt s from end flags first prev =
     onNumber (numberAt s from end)
-    (λ v e. onKept (keptOf first prev v) Fault (λ keep. suffixedAt s e end flags keep))
-    (λ a. onKept (keptOf first prev (a * 128)) Fault (λ keep. Short))
+    (λ v e. onLeft (keptOf first prev v) Fault (λ keep. suffixedAt s e end flags keep))
+    (λ a. onLeft (keptOf first prev (a * 128)) Fault (λ keep. Short))
     Fault
 
 unfoldable pub measureAt : ℕ → List ℕ → ℕ → ℕ → ℕ → Bool → ℕ → Measured

@@ -19,13 +19,16 @@ use Rattle.wire.specs.BigEndian.{beAt}
 use Rattle.wire.specs.Groups.{numberAt}
 use Rattle.wire.specs.declared.Number.{Number}
 use Rattle.wire.specs.declared.Number.the-variants.{Is, Cut, Over}
+use Rattle.entry.specs.Flags.{bit, extended, toMemory, extendedToMemory}
+use Rattle.entry.specs.declared.flags.Extended.{Extended}
+use Rattle.entry.specs.declared.flags.Extended.the-variants.{Kept, Unknown}
 use Rattle.measure.specs.declared.Head.{Head}
 use Rattle.measure.specs.declared.Head.the-variants.{Fixed, Unfinished, Spoiled}
-use Rattle.measure.specs.declared.Kept.{Kept}
-use Rattle.measure.specs.declared.Kept.the-variants.{Bytes, TooFew}
+use Rattle.measure.specs.declared.Left.{Left}
+use Rattle.measure.specs.declared.Left.the-variants.{Bytes, TooFew}
 use Rattle.measure.specs.declared.Measured.{Measured}
 use Rattle.measure.specs.declared.Measured.the-variants.{Entry, Short, Fault}
-use Rattle.measure.specs.Entry.{extendedPasses, extendedAt, headWith, headAt, HeadFits, wholeOf, paddedTo, onEnds, onNumber, onKept, onHead, paddedAt, keptOf, suffixedAt, compressedAt, measureAt}
+use Rattle.measure.specs.Entry.{onExtended, extendedAt, headWith, headAt, HeadFits, wholeOf, paddedTo, onEnds, onNumber, onLeft, onHead, paddedAt, keptOf, suffixedAt, compressedAt, measureAt}
 use Rattle.measure.specs.Laws.{number-fits}
 
 -- ---- the padding: for every fixed length and path length the entry is a multiple of 8 long, and the padding is 1 to 8
@@ -43,14 +46,14 @@ peel : (t : Bool) (x : Head) (f n g : ℕ) → pick t Unfinished x ≡ Fixed f n
 peel true x f n g e = let w : _≡_ {A = ℕ} 0 1 = cc in absurd (omega arith)
 peel false x f n g e = (refl, e)
 
-peel-byte : (t u : Bool) (x : Head) (f n g : ℕ) → pick t (pick u Unfinished Spoiled) x ≡ Fixed f n g → (t ≡ false) × (x ≡ Fixed f n g)
-peel-byte true true x f n g e = let w : _≡_ {A = ℕ} 0 1 = cc in absurd (omega arith)
-peel-byte true false x f n g e = let w : _≡_ {A = ℕ} 0 1 = cc in absurd (omega arith)
+peel-byte : (t : Bool) (u : Extended) (x : Head) (f n g : ℕ) → pick t (onExtended u Spoiled (λ bits. Unfinished)) x ≡ Fixed f n g → (t ≡ false) × (x ≡ Fixed f n g)
+peel-byte true (Kept b) x f n g e = let w : _≡_ {A = ℕ} 0 1 = cc in absurd (omega arith)
+peel-byte true Unknown x f n g e = let w : _≡_ {A = ℕ} 0 1 = cc in absurd (omega arith)
 peel-byte false u x f n g e = (refl, e)
 
-peel-last : (t : Bool) (a b c f n g : ℕ) → pick t (Fixed a b c) Spoiled ≡ Fixed f n g → (b ≡ n) × (c ≡ g)
-peel-last true a b c f n g e = ((cc), (cc))
-peel-last false a b c f n g e = let w : _≡_ {A = ℕ} 0 1 = cc in absurd (omega arith)
+peel-last : (t : Extended) (a b c f n g : ℕ) → onExtended t Spoiled (λ bits. Fixed (a + bits) b c) ≡ Fixed f n g → (b ≡ n) × (c ≡ g)
+peel-last (Kept u) a b c f n g e = ((cc), (cc))
+peel-last Unknown a b c f n g e = let w : _≡_ {A = ℕ} 0 1 = cc in absurd (omega arith)
 
 -- the fixed part ends before `end`, and is of one of two lengths
 pub record HeadAll (id : ℕ) (s : List ℕ) (i end size field : ℕ) : Type 0 where
@@ -70,35 +73,35 @@ extended-sized : (id : ℕ) (s : List ℕ) (i end kept field f n g : ℕ) → i 
 unfolding extendedAt
 extended-sized id s i end kept field f n g h k e =
     let j : ℕ = i + (42 + id) in
-    let w : Head = pick (extendedPasses (beAt 2 s j)) (Fixed (kept + beAt 2 s j * 65536) (44 + id) field) Spoiled in
-    let p = peel (ltb (end - j) 1) (pick (ltb (end - j) 2) (pick (extendedPasses (getD s j 0 * 256)) Unfinished Spoiled) w) f n g e in
-    let q = peel-byte (ltb (end - j) 2) (extendedPasses (getD s j 0 * 256)) w f n g (p .1) in
-    let r = peel-last (extendedPasses (beAt 2 s j)) (kept + beAt 2 s j * 65536) (44 + id) field f n g (q .1) in
+    let w : Head = onExtended (extendedToMemory (beAt 2 s j)) Spoiled (λ bits. Fixed (kept + bits) (44 + id) field) in
+    let p = peel (ltb (end - j) 1) (pick (ltb (end - j) 2) (onExtended (extendedToMemory (getD s j 0 * 256)) Spoiled (λ bits. Unfinished)) w) f n g e in
+    let q = peel-byte (ltb (end - j) 2) (extendedToMemory (getD s j 0 * 256)) w f n g (p .1) in
+    let r = peel-last (extendedToMemory (beAt 2 s j)) kept (44 + id) field f n g (q .1) in
     let room : 2 ≤ end - j = ltb-false (end - j) 2 (q .0) in
     let en : 44 + id ≡ n = r .0 in
     let eg : field ≡ g = r .1 in
     record { inside = omega arith; least = omega arith; most = omega arith; short = omega arith }
 
 with-sized : (id : ℕ) (s : List ℕ) (i end bits f n g : ℕ) (t : Bool) → i + (42 + id) ≤ end
-    → pick t (Fixed (bits / 4096 * 4096) (42 + id) (bits % 4096)) (extendedAt id s (i + (42 + id)) end (bits / 4096 * 4096) (bits % 4096)) ≡ Fixed f n g → Sized id i end n g
-with-sized id s i end bits f n g true h e =
+    → pick t (extendedAt id s (i + (42 + id)) end (toMemory bits) (bits % 4096)) (Fixed (toMemory bits) (42 + id) (bits % 4096)) ≡ Fixed f n g → Sized id i end n g
+with-sized id s i end bits f n g false h e =
     let en : 42 + id ≡ n = cc in
     let eg : bits % 4096 ≡ g = cc in
     record { inside = omega arith; least = omega arith; most = omega arith; short = omega arith }
-with-sized id s i end bits f n g false h e = extended-sized id s i end (bits / 4096 * 4096) (bits % 4096) f n g h (omega arith) e
+with-sized id s i end bits f n g true h e = extended-sized id s i end (toMemory bits) (bits % 4096) f n g h (omega arith) e
 
 pub head-all : (id : ℕ) (s : List ℕ) (i end f n g : ℕ) → headAt id s i end ≡ Fixed f n g → HeadAll id s i end n g
 unfolding headAt headWith
 head-all id s i end f n g e =
     let bits : ℕ = beAt 2 s (i + (40 + id)) in
-    let w : Head = pick (eqb (bits / 16384 % 2) 0) (Fixed (bits / 4096 * 4096) (42 + id) (bits % 4096)) (extendedAt id s (i + (42 + id)) end (bits / 4096 * 4096) (bits % 4096)) in
+    let w : Head = pick (bit extended (toMemory bits)) (extendedAt id s (i + (42 + id)) end (toMemory bits) (bits % 4096)) (Fixed (toMemory bits) (42 + id) (bits % 4096)) in
     let p = peel (ltb (length s) end) (pick (ltb end i) Unfinished (pick (ltb (end - i) (42 + id)) Unfinished w)) f n g e in
     let q = peel (ltb end i) (pick (ltb (end - i) (42 + id)) Unfinished w) f n g (p .1) in
     let r = peel (ltb (end - i) (42 + id)) w f n g (q .1) in
     let h₁ : end ≤ length s = ltb-false (length s) end (p .0) in
     let h₂ : i ≤ end = ltb-false end i (q .0) in
     let h₃ : 42 + id ≤ end - i = ltb-false (end - i) (42 + id) (r .0) in
-    let u = with-sized id s i end bits f n g (eqb (bits / 16384 % 2) 0) (omega arith) (r .1) in
+    let u = with-sized id s i end bits f n g (bit extended (toMemory bits)) (omega arith) (r .1) in
     record { file = h₁; inside = u .inside; least = u .least; most = u .most; short = u .short }
 
 pub head-fits : (s : List ℕ) (i end f n g : ℕ) (h : Head) → h ≡ headAt 20 s i end → h ≡ Fixed f n g → HeadFits (length s) i end n g
@@ -171,17 +174,17 @@ module _ (id : ℕ) (s : List ℕ) (i end prev size field f k : ℕ) (p : FileAt
       record { file = all .file; least = omega arith; keeps = omega arith; after = omega arith; ends = omega arith; stops = omega arith }
   text-inside flags keep x hk hx Never q e = let w : _≡_ {A = ℕ} 0 1 = cc in absurd (omega arith)
 
-  kept-inside : (flags : ℕ) (first : Bool) (v x : ℕ) → i + size < x → (t : Kept) → t ≡ keptOf first prev v → onKept t Fault (λ keep. suffixedAt s x end flags keep) ≡ Entry f k p l n → Inside id s i end prev k p l n
+  kept-inside : (flags : ℕ) (first : Bool) (v x : ℕ) → i + size < x → (t : Left) → t ≡ keptOf first prev v → onLeft t Fault (λ keep. suffixedAt s x end flags keep) ≡ Entry f k p l n → Inside id s i end prev k p l n
   unfolding suffixedAt
   kept-inside flags first v x hx (Bytes b) q e = text-inside flags b x (kept-small first prev v b (sym q)) hx (nulAt s x end) refl e
   kept-inside flags first v x hx TooFew q e = let w : _≡_ {A = ℕ} 0 1 = cc in absurd (omega arith)
 
-  cut-inside : (t : Kept) → onKept t Fault (λ keep. Short) ≡ Entry f k p l n → Inside id s i end prev k p l n
+  cut-inside : (t : Left) → onLeft t Fault (λ keep. Short) ≡ Entry f k p l n → Inside id s i end prev k p l n
   cut-inside (Bytes b) e = let w : _≡_ {A = ℕ} 0 1 = cc in absurd (omega arith)
   cut-inside TooFew e = let w : _≡_ {A = ℕ} 0 1 = cc in absurd (omega arith)
 
   number-inside : (flags : ℕ) (first : Bool) (t : Number) → t ≡ numberAt s (i + size) end
-      → onNumber t (λ v e. onKept (keptOf first prev v) Fault (λ keep. suffixedAt s e end flags keep)) (λ a. onKept (keptOf first prev (a * 128)) Fault (λ keep. Short)) Fault ≡ Entry f k p l n → Inside id s i end prev k p l n
+      → onNumber t (λ v e. onLeft (keptOf first prev v) Fault (λ keep. suffixedAt s e end flags keep)) (λ a. onLeft (keptOf first prev (a * 128)) Fault (λ keep. Short)) Fault ≡ Entry f k p l n → Inside id s i end prev k p l n
   number-inside flags first (Is v x) q e = kept-inside flags first v x (number-fits s (i + size) end v x (sym q) .after) (keptOf first prev v) refl e
   number-inside flags first (Cut a) q e = cut-inside (keptOf first prev (a * 128)) e
   number-inside flags first Over q e = let w : _≡_ {A = ℕ} 0 1 = cc in absurd (omega arith)

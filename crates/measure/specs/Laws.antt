@@ -6,7 +6,7 @@ use Prim.Native.Nat.{ℕ, zero, suc, _+_, _-_, _*_, _/_, _%_, _^_, _≤_, _<_}
 use native.Mathlib.Omega.{arith}
 use lib.ListN.{length, getD, drop}
 use lib.Dec.{ltb, eqb}
-use borrow.Author.Tests.{lt-ltb, le-ltb, eq-eqb, ne-eqb, ltb-true}
+use borrow.Author.Tests.{lt-ltb, le-ltb, eq-eqb, ne-eqb, ltb-true, ltb-false}
 use Rattle.laws.specs.Pick.{pick}
 use Rattle.slices.specs.Bytes.{nulAt}
 use Rattle.slices.specs.Laws.{nul-bounds}
@@ -17,50 +17,55 @@ use Rattle.wire.specs.BigEndian.{beAt}
 use Rattle.wire.specs.Groups.{groupsIn, numberAt}
 use Rattle.wire.specs.declared.Number.{Number}
 use Rattle.wire.specs.declared.Number.the-variants.{Is, Cut, Over}
+use Rattle.entry.specs.Flags.{bit, extended, toMemory, extendedToMemory}
+use Rattle.entry.specs.declared.flags.Extended.{Extended}
+use Rattle.entry.specs.declared.flags.Extended.the-variants.{Kept, Unknown}
 use Rattle.measure.specs.declared.Head.{Head}
 use Rattle.measure.specs.declared.Head.the-variants.{Fixed, Unfinished, Spoiled}
-use Rattle.measure.specs.declared.Kept.{Kept}
-use Rattle.measure.specs.declared.Kept.the-variants.{Bytes, TooFew}
+use Rattle.measure.specs.declared.Left.{Left}
+use Rattle.measure.specs.declared.Left.the-variants.{Bytes, TooFew}
 use Rattle.measure.specs.declared.Measured.{Measured}
 use Rattle.measure.specs.declared.Measured.the-variants.{Entry, Short, Fault}
-use Rattle.measure.specs.Entry.{extendedPasses, extendedAt, headWith, headAt, wholeOf, paddedTo, onEnds, onNumber, onKept, onHead, paddedAt, keptOf, suffixedAt, compressedAt, measureAt}
+use Rattle.measure.specs.Entry.{onExtended, extendedAt, headWith, headAt, wholeOf, paddedTo, onEnds, onNumber, onLeft, onHead, paddedAt, keptOf, suffixedAt, compressedAt, measureAt}
 
 -- ---- the bits after EXTENDED
-pub passes-high : (w : ℕ) → 32767 < w → false ≡ extendedPasses w
-unfolding extendedPasses
-passes-high w h = sym (rw (lt-ltb 32767 w h))
-
-pub passes-low : (w : ℕ) → w ≤ 32767 → eqb (w % 8192) 0 ≡ extendedPasses w
-unfolding extendedPasses
-passes-low w h = sym (rw (le-ltb 32767 w h))
-
 module _ (s : List ℕ) (i end kept field : ℕ) where
   pub extended-none : end - i < 1 → Unfinished ≡ extendedAt 20 s i end kept field
   unfolding extendedAt
   extended-none h = sym (rw (lt-ltb (end - i) 1 h))
 
   module _ (a : 1 ≤ end - i) where
-    module _ (h : end - i < 2) (w : ℕ) (e : w ≡ getD s i 0 * 256) (t : Bool) (p : t ≡ extendedPasses w) where
-      one-byte : extendedAt 20 s i end kept field ≡ pick t Unfinished Spoiled
+    module _ (h : end - i < 2) (w : ℕ) (e : w ≡ getD s i 0 * 256) (t : Extended) (p : t ≡ extendedToMemory w) where
+      one-byte : extendedAt 20 s i end kept field ≡ onExtended t Spoiled (λ bits. Unfinished)
       unfolding extendedAt
       one-byte = rw (le-ltb (end - i) 1 a, lt-ltb (end - i) 2 h, ← e, ← p)
 
-      pub extended-open : t ≡ true → Unfinished ≡ extendedAt 20 s i end kept field
-      extended-open q = sym (one-byte ∙ rw q)
+      pub extended-open : (b : ℕ) → t ≡ Kept b → Unfinished ≡ extendedAt 20 s i end kept field
+      extended-open b q = sym (one-byte ∙ rw q)
 
-      pub extended-shut : t ≡ false → Spoiled ≡ extendedAt 20 s i end kept field
+      pub extended-shut : t ≡ Unknown → Spoiled ≡ extendedAt 20 s i end kept field
       extended-shut q = sym (one-byte ∙ rw q)
 
-    module _ (h : 2 ≤ end - i) (w : ℕ) (e : w ≡ beAt 2 s i) (t : Bool) (p : t ≡ extendedPasses w) where
-      whole-word : extendedAt 20 s i end kept field ≡ pick t (Fixed (kept + w * 65536) 64 field) Spoiled
+    module _ (h : 2 ≤ end - i) (w : ℕ) (e : w ≡ beAt 2 s i) (t : Extended) (p : t ≡ extendedToMemory w) where
+      whole-word : extendedAt 20 s i end kept field ≡ onExtended t Spoiled (λ bits. Fixed (kept + bits) 64 field)
       unfolding extendedAt
       whole-word = rw (le-ltb (end - i) 1 a, le-ltb (end - i) 2 h, ← e, ← p)
 
-      pub extended-good : t ≡ true → Fixed (kept + w * 65536) 64 field ≡ extendedAt 20 s i end kept field
-      extended-good q = sym (whole-word ∙ rw q)
+      pub extended-good : (b : ℕ) → t ≡ Kept b → Fixed (kept + b) 64 field ≡ extendedAt 20 s i end kept field
+      extended-good b q = sym (whole-word ∙ rw q)
 
-      pub extended-bad : t ≡ false → Spoiled ≡ extendedAt 20 s i end kept field
+      pub extended-bad : t ≡ Unknown → Spoiled ≡ extendedAt 20 s i end kept field
       extended-bad q = sym (whole-word ∙ rw q)
+
+-- the bits that are kept are 29 and 30
+pub extended-small : (w b : ℕ) (t : Extended) → t ≡ extendedToMemory w → t ≡ Kept b → b < 2147483648
+unfolding extendedToMemory
+extended-small w b t e q = by (ltb 32767 w) (eqb (w % 8192) 0) refl (sym e ∙ q)
+  where
+    by : (u v : Bool) → ltb 32767 w ≡ u → pick u Unknown (pick v (Kept (w * 65536)) Unknown) ≡ Kept b → b < 2147483648
+    by true v g f = let z : _≡_ {A = ℕ} 0 1 = cc in absurd (omega arith)
+    by false true g f = let z : w * 65536 ≡ b = cc in omega (arith, ltb-false 32767 w g)
+    by false false g f = let z : _≡_ {A = ℕ} 0 1 = cc in absurd (omega arith)
 
 -- ---- the head
 module _ (s : List ℕ) (i end : ℕ) where
@@ -83,13 +88,16 @@ module _ (s : List ℕ) (i end : ℕ) where
         unfolding headAt
         head-bits = rw (le-ltb (length s) end a, le-ltb end i b, le-ltb (end - i) 62 c, e)
 
-        pub head-plain : bits / 16384 % 2 ≡ 0 → Fixed (bits / 4096 * 4096) 62 (bits % 4096) ≡ headAt 20 s i end
-        unfolding headWith
-        head-plain x = sym (head-bits ∙ rw (eq-eqb (bits / 16384 % 2) 0 x))
+        module _ (flags : ℕ) (f : flags ≡ toMemory bits) (t : Bool) (g : t ≡ bit extended flags) where
+          head-flags : headAt 20 s i end ≡ pick t (extendedAt 20 s (i + 62) end flags (bits % 4096)) (Fixed flags 62 (bits % 4096))
+          unfolding headWith
+          head-flags = head-bits ∙ rw (← f, ← g)
 
-        pub head-extended : (bits / 16384 % 2 ≡ 0 → ⊥) → (h : Head) → h ≡ extendedAt 20 s (i + 62) end (bits / 4096 * 4096) (bits % 4096) → h ≡ headAt 20 s i end
-        unfolding headWith
-        head-extended x h k = k ∙ sym (head-bits ∙ rw (ne-eqb (bits / 16384 % 2) 0 x))
+          pub head-plain : t ≡ false → Fixed flags 62 (bits % 4096) ≡ headAt 20 s i end
+          head-plain x = sym (head-flags ∙ rw x)
+
+          pub head-extended : t ≡ true → (h : Head) → h ≡ extendedAt 20 s (i + 62) end flags (bits % 4096) → h ≡ headAt 20 s i end
+          head-extended x h k = k ∙ sym (head-flags ∙ rw x)
 
 -- ---- padding
 pub pad-short : (i end flags size len : ℕ) → end - i < (size + len + 8) / 8 * 8 → Short ≡ paddedTo i end flags size len
@@ -209,7 +217,7 @@ module _ (s : List ℕ) (from end flags : ℕ) (first : Bool) (prev : ℕ) (n : 
   unfolding compressedAt
   strip-over q = sym (rw (← e, q))
 
-  module _ (a : ℕ) (q : n ≡ Cut a) (k : Kept) (f : k ≡ keptOf first prev (a * 128)) where
+  module _ (a : ℕ) (q : n ≡ Cut a) (k : Left) (f : k ≡ keptOf first prev (a * 128)) where
     pub cut-few : k ≡ TooFew → Fault ≡ compressedAt s from end flags first prev
     unfolding compressedAt
     cut-few g = sym (rw (← e, q, ← f, g))
@@ -218,7 +226,7 @@ module _ (s : List ℕ) (from end flags : ℕ) (first : Bool) (prev : ℕ) (n : 
     unfolding compressedAt
     cut-open b g = sym (rw (← e, q, ← f, g))
 
-  module _ (v x : ℕ) (q : n ≡ Is v x) (k : Kept) (f : k ≡ keptOf first prev v) where
+  module _ (v x : ℕ) (q : n ≡ Is v x) (k : Left) (f : k ≡ keptOf first prev v) where
     pub strip-few : k ≡ TooFew → Fault ≡ compressedAt s from end flags first prev
     unfolding compressedAt
     strip-few g = sym (rw (← e, q, ← f, g))
@@ -247,8 +255,6 @@ module _ (s : List ℕ) (i end version : ℕ) (first : Bool) (prev : ℕ) (h : H
     measure-other v k = k ∙ sym (rw (← e, q, ne-eqb version 4 v))
 
 pub ruleset laws = (
-  passes-high,
-  passes-low,
   extended-none,
   extended-open,
   extended-shut,

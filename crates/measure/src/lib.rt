@@ -3,7 +3,8 @@
 ghost use mathlib.Core.Path.{_≡_};
 ghost use Prim.Native.Nat.{_+_, _*_, _/_, _%_, _^_, _≤_, _<_};
 ghost use lib.ListN.{length};
-ghost use Rattle.measure.specs.Entry.{idLength, extendedPasses, headAt, extendedAt, HeadFits, paddedTo, paddedAt, keptOf, suffixedAt, compressedAt, measureAt};
+ghost use Rattle.measure.specs.Entry.{idLength, extendedAt, headAt, HeadFits, paddedTo, paddedAt, keptOf, suffixedAt, compressedAt, measureAt};
+use entry::flags::Extended;
 use slices::Ends;
 use wire::FileAt;
 use wire::Number;
@@ -44,53 +45,44 @@ pub enum Measured {
 }
 
 // How many bytes of the path before stay.
-enum Kept {
+enum Left {
     Bytes(usize),
     TooFew,
 }
 
-// Whether of the 16 bits after EXTENDED only bits 13 and 14 are set.
-fn extended_passes(word: u32) -> bool
-    ensures { λ r. ⌜ r ≡ extendedPasses word ⌝ }
-{
-    if 32767 < word {
-        return false;
-    }
-    word % 8192 == 0
-}
-
 // The word of which b is the upper byte, and the lower is 0.
-fn upper_byte(b: u8) -> u32
+fn upper_byte(b: u8) -> u16
     ensures { λ r. ⌜ r ≡ b * 256 ⌝ }
 {
-    b as u32 * 256
+    b as u16 * 256
 }
 
 // The bits after EXTENDED, which begin at `at`; of one byte alone it can be told whether it spoils them.
 fn read_extended(file: &[u8], at: usize, end: usize, kept: u32, field: usize) -> Head
     requires { ⌜ (at ≤ end) × (end ≤ length (now file)) ⌝ }
-    requires { ⌜ (kept < 65536) × (field < 4096) ⌝ }
-    ensures { λ r. ⌜ r ≡ extendedAt 20 (now (file .entry)) at end kept field ⌝ }
+    requires { ⌜ kept < 65536 ⌝ }
+    ensures { λ r. ⌜ r ≡ extendedAt idLength (now (file .entry)) at end kept field ⌝ }
 {
     let room = end - at;
     if room < 1 {
         return Head::Unfinished;
     }
     if room < 2 {
-        if extended_passes(upper_byte(file[at])) {
-            return Head::Unfinished;
-        }
-        return Head::Spoiled;
-    }
-    let more = wire::be16(file, at) as u32;
-    if extended_passes(more) {
-        return Head::Fixed {
-            flags: kept + more * 65536,
-            size: EXTENDED,
-            field,
+        let part = entry::flags::extended_to_memory(upper_byte(file[at]));
+        return match part {
+            Extended::Unknown => Head::Spoiled,
+            Extended::Kept(_) => Head::Unfinished,
         };
     }
-    Head::Spoiled
+    let whole = entry::flags::extended_to_memory(wire::be16(file, at));
+    match whole {
+        Extended::Unknown => Head::Spoiled,
+        Extended::Kept(bits) => Head::Fixed {
+            flags: kept + bits,
+            size: EXTENDED,
+            field,
+        },
+    }
 }
 
 fn read_head(file: &[u8], at: usize, end: usize) -> Head
@@ -106,18 +98,17 @@ fn read_head(file: &[u8], at: usize, end: usize) -> Head
     if room < PLAIN {
         return Head::Unfinished;
     }
-    let bits = wire::be16(file, at + FLAGS_AT) as u32;
-    let kept = bits / 4096 * 4096;
-    let field = (bits % 4096) as usize;
-    let extended = bits / 16384 % 2;
-    if extended == 0 {
-        return Head::Fixed {
-            flags: kept,
-            size: PLAIN,
-            field,
-        };
+    let word = wire::be16(file, at + FLAGS_AT);
+    let flags = entry::flags::to_memory(word);
+    let field = (word % 4096) as usize;
+    if entry::flags::is_extended(flags) {
+        return read_extended(file, at + PLAIN, end, flags, field);
     }
-    read_extended(file, at + PLAIN, end, kept, field)
+    Head::Fixed {
+        flags,
+        size: PLAIN,
+        field,
+    }
 }
 
 // The entry's end where its path has len bytes, after `size` bytes of fixed length: 1 to 8 bytes of padding.
@@ -158,17 +149,17 @@ fn padded(file: &[u8], at: usize, end: usize, flags: u32, size: usize, field: us
 }
 
 // What a strip leaves of the path before, which has prev bytes. The first entry's strip is ignored.
-fn bytes_kept(first: bool, prev: usize, strip: u64) -> Kept
+fn bytes_kept(first: bool, prev: usize, strip: u64) -> Left
     ensures { λ r. ⌜ r ≡ keptOf first prev strip ⌝ }
 {
     if first {
-        return Kept::Bytes(0);
+        return Left::Bytes(0);
     }
     let gone = strip as usize;
     if prev < gone {
-        return Kept::TooFew;
+        return Left::TooFew;
     }
-    Kept::Bytes(prev - gone)
+    Left::Bytes(prev - gone)
 }
 
 // The suffix from `from` on, to a NUL.
@@ -207,15 +198,15 @@ fn compressed(
         Number::Cut(a) => {
             let least = bytes_kept(first, prev, a * 128);
             match least {
-                Kept::TooFew => Measured::Fault,
-                Kept::Bytes(_) => Measured::Short,
+                Left::TooFew => Measured::Fault,
+                Left::Bytes(_) => Measured::Short,
             }
         }
         Number::Is(v, e) => {
             let stays = bytes_kept(first, prev, v);
             match stays {
-                Kept::TooFew => Measured::Fault,
-                Kept::Bytes(keep) => suffixed(file, e, end, flags, keep),
+                Left::TooFew => Measured::Fault,
+                Left::Bytes(keep) => suffixed(file, e, end, flags, keep),
             }
         }
     }

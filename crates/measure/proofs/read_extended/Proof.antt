@@ -1,6 +1,7 @@
 -- `measure::read_extended` meets its contract. Assumes nothing.
+use native.Mathlib.Omega.{arith}
 use borrow.Author.Needs.{needs}
-use Rattle.measure.specs.Laws.{laws}
+use Rattle.measure.specs.Laws.{extended-small, laws}
 use Rattle.measure.proofs.read_extended.Statement.{statement}
 use Rattle.measure.proofs.read_extended.Tie as tie
 
@@ -16,8 +17,14 @@ shared-slice-read-upper-byte c = search (laws, needs)
 upper-byte-requires : tie.Need-upper-byte-requires
 upper-byte-requires c κs = search (laws, needs)
 
-extended-passes-requires : tie.Need-extended-passes-requires
-extended-passes-requires c κs = search (laws, needs)
+extended-to-memory-requires : tie.Need-extended-to-memory-requires
+extended-to-memory-requires c κs = search (laws, needs)
+
+enum-told : tie.Need-enum-told
+enum-told c = search (laws, needs)
+
+enum-told-2 : tie.Need-enum-told-2
+enum-told-2 c = search (laws, needs)
 
 returns-2 : tie.Need-returns-2
 returns-2 c = search (laws, needs)
@@ -28,17 +35,17 @@ returns-3 c = search (laws, needs)
 be16-requires : tie.Need-be16-requires
 be16-requires c κs = search (laws, needs)
 
-cast-more : tie.Need-cast-more
-cast-more c = search (laws, needs)
+extended-to-memory-requires-2 : tie.Need-extended-to-memory-requires-2
+extended-to-memory-requires-2 c κs = search (laws, needs)
 
-extended-passes-requires-2 : tie.Need-extended-passes-requires-2
-extended-passes-requires-2 c κs = search (laws, needs)
+enum-told-3 : tie.Need-enum-told-3
+enum-told-3 c = search (laws, needs)
 
-mul-t15 : tie.Need-mul-t15
-mul-t15 c = search (laws, needs)
+enum-known-whole : tie.Need-enum-known-whole
+enum-known-whole c = search (laws, needs)
 
-add-t16 : tie.Need-add-t16
-add-t16 c = search (laws, needs)
+add-t17 : tie.Need-add-t17
+add-t17 c = omega (arith, extended-small _ _ _ (c .before .before .before .extended-to-memory2 .ensures) (c .before .whole .given .1))
 
 returns-4 : tie.Need-returns-4
 returns-4 c = search (laws, needs)
@@ -54,13 +61,15 @@ read-extended-spec =
     returns
     shared-slice-read-upper-byte
     upper-byte-requires
-    extended-passes-requires
+    extended-to-memory-requires
+    enum-told
+    enum-told-2
     returns-2
     returns-3
     be16-requires
-    cast-more
-    extended-passes-requires-2
-    mul-t15
-    add-t16
+    extended-to-memory-requires-2
+    enum-told-3
+    enum-known-whole
+    add-t17
     returns-4
     returns-5)

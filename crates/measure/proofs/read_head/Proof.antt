@@ -19,23 +19,23 @@ add-be16 c = search (laws, needs)
 be16-requires : tie.Need-be16-requires
 be16-requires c κs = search (laws, needs)
 
-cast-bits : tie.Need-cast-bits
-cast-bits c = search (laws, needs)
-
-mul-kept : tie.Need-mul-kept
-mul-kept c = search (laws, needs)
+to-memory-requires : tie.Need-to-memory-requires
+to-memory-requires c κs = search (laws, needs)
 
 cast-field : tie.Need-cast-field
 cast-field c = search (laws, needs)
 
-returns-4 : tie.Need-returns-4
-returns-4 c = search (laws, needs)
+is-extended-requires : tie.Need-is-extended-requires
+is-extended-requires c κs = search (laws, needs)
 
 add-read-extended : tie.Need-add-read-extended
 add-read-extended c = search (laws, needs)
 
 read-extended-requires : tie.Need-read-extended-requires
 read-extended-requires c κs = search (laws, needs)
+
+returns-4 : tie.Need-returns-4
+returns-4 c = search (laws, needs)
 
 returns-5 : tie.Need-returns-5
 returns-5 c = search (laws, needs)
@@ -49,10 +49,10 @@ read-head-spec =
     returns-3
     add-be16
     be16-requires
-    cast-bits
-    mul-kept
+    to-memory-requires
     cast-field
-    returns-4
+    is-extended-requires
     add-read-extended
     read-extended-requires
+    returns-4
     returns-5)

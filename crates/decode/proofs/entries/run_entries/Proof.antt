@@ -60,7 +60,7 @@ add-size : tie.Need-add-size Inv-loop μ-loop
 add-size c =
     let at-m = c .before .before in
     let at-loop = at-m .before .before .before .before in
-    omega (arith, at-loop .before .before .before .before .good, at-loop .loop .inv .paths, run-size _ _ _ (at-loop .loop .i) _ _ _ _ (at-loop .loop .records) (at-loop .loop .paths) _ (at-m .before .before .measure .ensures) _ _ _ _ _ (at-m .m .given .1) (at-loop .loop .inv .before) (at-loop .loop .inv .within))
+    omega (arith, at-loop .before .before .before .before .good, at-loop .loop .inv .paths, run-size _ _ _ _ _ _ _ (at-loop .loop .paths) _ (at-m .before .before .measure .ensures) _ _ _ _ _ (at-m .m .given .1) (at-loop .loop .inv .before) (at-loop .loop .inv .within))
 
 sub-if2 : tie.Need-sub-if2 Inv-loop μ-loop
 sub-if2 c = search (laws, needs)
