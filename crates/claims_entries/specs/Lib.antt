@@ -1,0 +1,6 @@
+-- The grammar of entries and the readers' definitions, linked.
+pub mod Place
+pub mod Parts
+pub mod Measure
+pub mod Rendering
+pub mod Run
