@@ -4,3 +4,6 @@ pub mod Parts
 pub mod Measure
 pub mod Rendering
 pub mod Run
+pub mod Reach
+pub mod Said
+pub mod Claims

@@ -54,6 +54,10 @@ pub data Refuses : Measured → Type 0 where
   short : Refuses Short
   fault : Refuses Fault
 
+pub not-found : {r : Measured} → Refuses r → {flags keep : ℕ} {suffix : FileAt} {len : ℕ} {next : FileAt} → ¬ (r ≡ Found flags keep suffix len next)
+not-found short q = let z : _≡_ {A = ℕ} 0 1 = cc in omega arith
+not-found fault q = let z : _≡_ {A = ℕ} 0 1 = cc in omega arith
+
 pub data SaysMeasured (n : ℕ) (s : List ℕ) (at end version : ℕ) (before : Before) : Measured → Type 0 where
   spelled : {flags keep : ℕ} {suffix : FileAt} {len : ℕ} {next : FileAt} → end ≤ length s → Spelled n s at end version before flags keep suffix len next
       → SaysMeasured n s at end version before (Found flags keep suffix len next)
@@ -338,20 +342,8 @@ module _ (n : ℕ) (s : List ℕ) (at end version : ℕ) (before : Before) (is-f
 
   -- no entry is told exactly if none is spelled
   pub refused-exactly-if-not-spelled : Refuses (measureAt n s at end version is-first prev) ↔ ((m : Meaning) (rest : List ℕ) → ¬ Begins (Entry n version before) (drop at (take end s)) m rest)
-  refused-exactly-if-not-spelled = (to refl, from (measureAt n s at end version is-first prev) refl)
+  refused-exactly-if-not-spelled = ((λ r m rest x. not-found r (spelled-is-measured m rest x .measured)), from (measureAt n s at end version is-first prev) refl)
     where
-      to : {r : Measured} → measureAt n s at end version is-first prev ≡ r → Refuses r → (m : Meaning) (rest : List ℕ) → ¬ Begins (Entry n version before) (drop at (take end s)) m rest
-      to q short m rest x =
-          let t = spelled-is-measured m rest x in
-          let r : measureAt n s at end version is-first prev ≡ Found (t .flags) (t .keep) (t .suffix) (t .len) (fileAt (at + length (x .0))) = t .measured in
-          let z : _≡_ {A = ℕ} 0 1 = cc in
-          omega arith
-      to q fault m rest x =
-          let t = spelled-is-measured m rest x in
-          let r : measureAt n s at end version is-first prev ≡ Found (t .flags) (t .keep) (t .suffix) (t .len) (fileAt (at + length (x .0))) = t .measured in
-          let z : _≡_ {A = ℕ} 0 1 = cc in
-          omega arith
-
       from : (m : Measured) → measureAt n s at end version is-first prev ≡ m → ((m : Meaning) (rest : List ℕ) → ¬ Begins (Entry n version before) (drop at (take end s)) m rest)
           → Refuses (measureAt n s at end version is-first prev)
       from Short q none = rw q short
