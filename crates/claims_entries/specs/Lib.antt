@@ -7,3 +7,5 @@ pub mod Run
 pub mod Reach
 pub mod Said
 pub mod Claims
+pub mod Fields
+pub mod Shown
