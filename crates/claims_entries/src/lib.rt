@@ -1,0 +1,1 @@
+// No code: theorems between the grammar of entries and the definitions that the readers' contracts cite.
