@@ -5,7 +5,7 @@ use Prim.Native.Nat.{ℕ, suc, _+_, _-_, _*_, _≤_, _<_}
 use mathlib.Core.Path.{_≡_, refl, sym, ap, _∙_, subst}
 use mathlib.Core.List.{List, [], _∷_, _++_, append-assoc, append-nil, append-cancel-left}
 use mathlib.Core.Bool.{Bool, true, false}
-use mathlib.Core.Logic.{_↔_, _⊎_, ⊎-elim}
+use mathlib.Core.Logic.{_↔_, ⊎-elim}
 use native.Mathlib.Omega.{arith}
 use native.Mathlib.Nat.{zero-add}
 use lib.Dec.{lit≤}
@@ -25,7 +25,7 @@ use Rattle.grammar.specs.Entry.{Meaning, start, Entry, Entries}
 use Rattle.claims_entries.specs.Place.{Lies, lies-from, lies-to}
 use Rattle.claims_entries.specs.Measure.{refused-exactly-if-not-spelled}
 use Rattle.claims_entries.specs.Rendering.{recordsBytes, pathsBytes, sparseBy, Bytes}
-use Rattle.claims_entries.specs.Said.{entriesSpace, SpaceIn, nothingBefore, readingOf, filled, after, holding, doneBy, Fits, Lacks, SaysRead, says-done, says-not-spelled, says-no-room, IsDone, AllSpelled, StopsAt, RoomFor, LacksRoomAt}
+use Rattle.claims_entries.specs.Said.{entriesSpace, SpaceIn, readingOf, filled, after, holding, doneBy, Fits, SaysRead, says-done, says-not-spelled, says-no-room, IsDone, AllSpelled, StopsAt, RoomFor, LacksRoomAt}
 use Rattle.claims_entries.specs.Reach.{Reach, whole, part, full, reach}
 use Rattle.claims_entries.specs.Run.{Stands, none-yet, knows, firstAfter, run-steps, run-full, run-refused}
 

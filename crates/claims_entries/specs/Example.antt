@@ -1,13 +1,13 @@
 -- The premises can be met, and matter: an entry that two stores of just its size hold; a store of one byte less gives refusal 6, and a space of one byte less refusal 5.
 -- Assumes nothing.
 use Prim.Native.Nat.{ℕ, zero, suc, _+_, _≤_, _<_}
-use mathlib.Core.Path.{_≡_, refl, sym, ap, subst}
+use mathlib.Core.Path.{_≡_, refl, sym, subst}
 use mathlib.Core.List.{List, [], _∷_, _++_}
 use mathlib.Core.Bool.{Bool, true, false}
 use mathlib.Core.Logic.{inl, inr}
 use native.Mathlib.Omega.{arith}
 use lib.Dec.{ltb, lit≤, lit<}
-use lib.ListN.{length, getD, replicate}
+use lib.ListN.{getD, replicate}
 use Rattle.laws.specs.Pick.{pick}
 use Rattle.laws.specs.Read.{Begins, refuses}
 use Rattle.laws.specs.Tests.{Less, less, not-less, less?}

@@ -16,7 +16,7 @@ use Rattle.entry.specs.Mode.{directory, keepMode}
 use Rattle.entry.specs.Record.{frontOf, restOf, recordOf}
 use Rattle.entry.specs.Laws.{dir-inside, length-rest}
 use Rattle.decode.specs.Entries.{marked}
-use Rattle.grammar.specs.Entry.{Stat, Meaning, keptMode, Fields, fields, Entry, entry}
+use Rattle.grammar.specs.Entry.{Stat, Meaning, keptMode, fields, Entry, entry}
 use Rattle.grammar.specs.File.{directoryMode, Some, this, other, Tells, it-is, it-is-not}
 use Rattle.claims_entries.specs.Parts.{wordsAt, statAt, meaningAt}
 
@@ -64,8 +64,7 @@ length-words (v ∷ vs) = length-append (bytesOf 4 v) (wordBytes vs) ∙ omega (
 
 pub length-record : (n from : ℕ) (m : Meaning) → n ≤ 32 → length (m .id) ≡ n → length (recordBytes n from m) ≡ 96
 unfolding recordBytes
-length-record n from m h e =
-    simp length-append (omega (arith, length-words (numbersOf (m .stat)), length-rest n (m .flags) from (from + length (m .path)) h))
+length-record n from m h e = simp (length-append, length-words, length-rest) (omega arith)
 
 pub spelled-id : {n version : ℕ} {before : _} {b : List ℕ} {m : Meaning} → Entry n version before b m → length (m .id) ≡ n
 spelled-id (entry (fields x e) y z) = e

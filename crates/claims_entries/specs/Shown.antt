@@ -1,13 +1,13 @@
 -- What a reading of entries leaves, through the accessors: each record shows its entry's meaning, and its path lies in the path store, so that refusal 12 never arises on it.
 -- Assumes that the file is bytes, that the entries' space lies in it, and that the path store can be addressed by 64 bits, each a premise with a name.
 use Prim.Native.Nat.{ℕ, _+_, _^_, _≤_, _<_}
-use mathlib.Core.Path.{_≡_, refl, sym, ap, _∙_, subst}
-use mathlib.Core.List.{List, _++_}
+use mathlib.Core.Path.{_≡_, sym, subst}
+use mathlib.Core.List.{List}
 use mathlib.Core.Bool.{Bool, true}
 use mathlib.Core.Option.{some}
 use native.Mathlib.Omega.{arith}
 use lib.Dec.{lit≤}
-use lib.ListN.{length, getD, take, drop, getElem?, take-append-drop}
+use lib.ListN.{length, take, drop, getElem?, take-append-drop}
 use lib.Seq.{getD-drop}
 use Rattle.laws.specs.Read.{Begins}
 use Rattle.wire.specs.declared.FileAt.{FileAt}
