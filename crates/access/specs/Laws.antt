@@ -2,21 +2,23 @@
 use mathlib.Core.Path.{_≡_, refl, sym, ap, _∙_}
 use mathlib.Core.Bool.{Bool, true, false}
 use mathlib.Core.List.{List, [], _∷_}
-use mathlib.Core.Logic.{⊎-elim}
-use Prim.Native.Nat.{ℕ, zero, suc, _+_, _-_, _/_, _≤_, _<_}
-use native.Mathlib.Nat.{add-zero, sub-zero}
+use mathlib.Core.Logic.{_⊎_, ⊎-elim}
+use Prim.Native.Nat.{ℕ, zero, suc, _+_, _-_, _*_, _/_, _^_, _≤_, _<_}
+use native.Mathlib.Nat.{add-zero, sub-zero, mul-le-mul-right}
+use native.Mathlib.Numerals.{one-add}
 use native.Mathlib.Omega.{arith}
 use lib.ListN.{length, getD, drop, length-drop, drop-of-length-le}
 use lib.Dec.{ltb, eqb}
 use lib.Seq.{getD-drop}
 use borrow.Author.Tests.{lt-ltb, le-ltb, eq-eqb, ne-eqb}
 use Rattle.laws.specs.Pick.{pick}
-use Rattle.laws.specs.Tests.{Same, same, differs, same?, lt-or-ge}
+use Rattle.laws.specs.Tests.{Same, same, differs, same?, lt-or-ge, tri}
 use Rattle.laws.specs.Lists.{drop-next}
-use Rattle.laws.specs.Order.{Comparison, below, equal, beyond, compared, compared-lt, compared-gt, compared-eq}
-use Rattle.wire.specs.BigEndian.{beAt}
+use Rattle.laws.specs.Order.{Comparison, below, equal, beyond, compared, compared-lt, compared-gt, compared-eq, flip, compared-flip}
+use Rattle.wire.specs.BigEndian.{beAt, be-small}
+use Rattle.wire.specs.Laws.{be-join}
 use Rattle.entry.specs.Record.{recordsIn, stageAt, liesInside, pathAt}
-use Rattle.access.specs.Order.{orderOf, stageOrder, thenBy, placed, agreeing}
+use Rattle.access.specs.Order.{orderOf, stageOrder, thenBy, agreeing, EightsAgree}
 use Rattle.access.specs.Verify.{isLess, followsAt, verifyFrom, verifyAt}
 use Rattle.access.specs.Lookup.{probeAt, turn, halve, searchAt, lookupAt}
 use Rattle.access.specs.declared.order.Order.{Order}
@@ -72,16 +74,80 @@ agree-run (suc w) a b k ha hb e =
     let ih = agree-run w a b (k + 1) (omega arith) (omega arith) (λ m l. let p : k + 1 + m ≡ k + (m + 1) = omega arith in rw p (e (m + 1) (omega arith))) in
     rw (q, drop-next a k (omega arith), drop-next b k (omega arith), eq-eqb (getD a k 0) (getD b k 0) here) (omega (arith, ih))
 
-pub agree-start : (a b : List ℕ) → 0 + agreeing (drop 0 a) (drop 0 b) ≡ agreeing a b
-agree-start a b = omega arith
+-- w bytes that are equal decide nothing
+compare-run : (w : ℕ) (a b : List ℕ) (k : ℕ) → k + w ≤ length a → k + w ≤ length b → ((m : ℕ) → m < w → getD a (k + m) 0 ≡ getD b (k + m) 0)
+    → compared (drop (k + w) a) (drop (k + w) b) ≡ compared (drop k a) (drop k b)
+compare-run zero a b k ha hb e = rw (add-zero k)
+compare-run (suc w) a b k ha hb e =
+    let q : k + suc w ≡ k + 1 + w = omega arith in
+    let here : getD a k 0 ≡ getD b k 0 = rw (add-zero k) at (e 0 (omega arith)) in
+    let ih = compare-run w a b (k + 1) (omega arith) (omega arith) (λ m l. let p : k + 1 + m ≡ k + (m + 1) = omega arith in rw p (e (m + 1) (omega arith))) in
+    rw (q, drop-next a k (omega arith), drop-next b k (omega arith), compared-eq (getD a k 0) (getD b k 0) (drop (k + 1) a) (drop (k + 1) b) here) ih
 
-pub agree-eight : (a b : List ℕ) (k r x y n : ℕ) → k + agreeing (drop k a) (drop k b) ≡ r → x ≡ beAt 8 a k → y ≡ beAt 8 b k → x ≡ y → 8 ≤ n - k → n ≤ length a → n ≤ length b → ((j : ℕ) → getD a j 0 < 256) → ((j : ℕ) → getD b j 0 < 256)
-    → k + 8 + agreeing (drop (k + 8) a) (drop (k + 8) b) ≡ r
-agree-eight a b k r x y n inv ex ey e h la lb ha hb =
-    let run : 8 + agreeing (drop (k + 8) a) (drop (k + 8) b) ≡ agreeing (drop k a) (drop k b) = agree-run 8 a b k (omega arith) (omega arith) (bytes-same 8 a b k ha hb (sym ex ∙ e ∙ ey)) in
-    omega arith
+-- eight bytes passed: what is kept of both
+pub record EightsPassed (a b : List ℕ) (k : ℕ) : Type 0 where
+  pub agrees : k + agreeing (drop k a) (drop k b) ≡ agreeing a b
+  pub decides : compared (drop k a) (drop k b) ≡ compared a b
+
+pub eights-start : (a b : List ℕ) → EightsPassed a b 0
+eights-start a b = record { agrees = omega arith; decides = refl }
+
+module _ (a b : List ℕ) (k : ℕ) (inv : EightsPassed a b k) (ha : k ≤ length a) (hb : k ≤ length b) where
+  abbrev Differ : Type 0
+  Differ = k + 8 ≤ length a → k + 8 ≤ length b → beAt 8 a k ≡ beAt 8 b k → ⊥
+
+  ended : Differ → EightsAgree a b k
+  ended d = record { inside = (ha, hb); agrees = inv .agrees; decides = inv .decides; differ = d }
+
+  pub eights-first : length a - k < 8 → EightsAgree a b k
+  eights-first h = ended (λ p q e. omega arith)
+
+  pub eights-second : length b - k < 8 → EightsAgree a b k
+  eights-second h = ended (λ p q e. omega arith)
+
+  module _ (x y : ℕ) (ex : x ≡ beAt 8 a k) (ey : y ≡ beAt 8 b k) where
+    pub eights-differ : (x ≡ y → ⊥) → EightsAgree a b k
+    eights-differ ne = ended (λ p q e. ne (ex ∙ e ∙ sym ey))
+
+    pub eights-next : x ≡ y → 8 ≤ length a - k → 8 ≤ length b - k → ((j : ℕ) → getD a j 0 < 256) → ((j : ℕ) → getD b j 0 < 256) → EightsPassed a b (k + 8)
+    eights-next e la lb sa sb =
+        let same-bytes = bytes-same 8 a b k sa sb (sym ex ∙ e ∙ ey) in
+        let run : 8 + agreeing (drop (k + 8) a) (drop (k + 8) b) ≡ agreeing (drop k a) (drop k b) = agree-run 8 a b k (omega arith) (omega arith) same-bytes in
+        record { agrees = omega (arith, inv .agrees); decides = compare-run 8 a b k (omega arith) (omega arith) same-bytes ∙ inv .decides }
+
+pub agree-is : (a b : List ℕ) (k r : ℕ) → EightsAgree a b k → r ≡ k + agreeing (drop k a) (drop k b) → r ≡ agreeing a b
+agree-is a b k r h e = e ∙ h .agrees
+
+-- bytes that differ stand as the numbers that they spell, which are less than 256 ^ w apart from their first byte on
+first-byte : (w : ℕ) (a : List ℕ) (k : ℕ) → beAt (suc w) a k ≡ getD a k 0 * 256 ^ w + beAt w a (k + 1)
+unfolding beAt
+first-byte w a k =
+    let q : 1 + w ≡ suc w = one-add w in
+    ap (λ (n : ℕ). beAt n a k) (sym q) ∙ be-join 1 w a k ∙ rw (add-zero k) (let z : 0 * 256 + getD a k 0 ≡ getD a k 0 = omega arith in rw z)
+
+larger : (x y p r s : ℕ) → x < y → r < p → x * p + r < y * p + s
+larger x y p r s h k = let m : (x + 1) * p ≤ y * p = mul-le-mul-right p (omega arith) in omega arith
+
+by-numbers : (w : ℕ) (a b : List ℕ) (k : ℕ) → ((j : ℕ) → getD a j 0 < 256) → ((j : ℕ) → getD b j 0 < 256) → k + w ≤ length a → k + w ≤ length b → beAt w a k < beAt w b k → compared (drop k a) (drop k b) ≡ below
+unfolding beAt
+by-numbers zero a b k ha hb la lb h = absurd (omega arith)
+by-numbers (suc w) a b k ha hb la lb h =
+    let la′ : k + 1 + w ≤ length a = omega arith in
+    let lb′ : k + 1 + w ≤ length b = omega arith in
+    let fa : beAt (suc w) a k ≡ getD a k 0 * 256 ^ w + beAt w a (k + 1) = first-byte w a k in
+    let fb : beAt (suc w) b k ≡ getD b k 0 * 256 ^ w + beAt w b (k + 1) = first-byte w b k in
+    let less-numbers : getD a k 0 * 256 ^ w + beAt w a (k + 1) < getD b k 0 * 256 ^ w + beAt w b (k + 1) = omega arith in
+    rw (drop-next a k (omega arith), drop-next b k (omega arith))
+    (⊎-elim (λ l. compared-lt (getD a k 0) (getD b k 0) (drop (k + 1) a) (drop (k + 1) b) l)
+    (⊎-elim
+    (λ l. compared-eq (getD a k 0) (getD b k 0) (drop (k + 1) a) (drop (k + 1) b) l ∙ by-numbers w a b (k + 1) ha hb la′ lb′ (let z : getD a k 0 * 256 ^ w ≡ getD b k 0 * 256 ^ w = ap (λ (n : ℕ). n * 256 ^ w) l in omega arith))
+    (λ l. absurd (let z = larger (getD b k 0) (getD a k 0) (256 ^ w) (beAt w b (k + 1)) (beAt w a (k + 1)) l (be-small w b (k + 1) hb) in omega (arith, z))))
+    (tri (getD a k 0) (getD b k 0)))
 
 -- ---- where two paths part
+
+not-same : (x y : ℕ) → y ≤ x → (x ≡ y → ⊥) → y < x
+not-same x y u v = omega arith
 
 part-eq : (x y : ℕ) (xs ys : List ℕ) (t : Bool) → Same x y t → compared xs ys ≡ compared (drop (agreeing xs ys) xs) (drop (agreeing xs ys) ys)
     → compared (x ∷ xs) (y ∷ ys) ≡ compared (drop (pick t (suc (agreeing xs ys)) 0) (x ∷ xs)) (drop (pick t (suc (agreeing xs ys)) 0) (y ∷ ys))
@@ -135,10 +201,53 @@ module _ (a b : List ℕ) (k : ℕ) (e : k ≡ agreeing a b) where
       pub compare-greater : getD b k 0 ≤ getD a k 0 → Greater ≡ orderOf (compared a b)
       compare-greater m =
           let ne : getD a k 0 ≡ getD b k 0 → ⊥ = rw (← e) at (apart a b) h l in
-          sym (ap orderOf (opened ∙ compared-gt (getD a k 0) (getD b k 0) (drop (k + 1) a) (drop (k + 1) b) (more (getD a k 0) (getD b k 0) m ne)))
-        where
-          more : (x y : ℕ) → y ≤ x → (x ≡ y → ⊥) → y < x
-          more x y u v = omega arith
+          sym (ap orderOf (opened ∙ compared-gt (getD a k 0) (getD b k 0) (drop (k + 1) a) (drop (k + 1) b) (not-same (getD a k 0) (getD b k 0) m ne)))
+
+-- the same, of what stands behind `from`
+module _ (a b : List ℕ) (from k : ℕ) (e : k ≡ from + agreeing (drop from a) (drop from b)) where
+  abbrev rest-a : List ℕ
+  rest-a = drop from a
+
+  abbrev rest-b : List ℕ
+  rest-b = drop from b
+
+  pub from-equal : length a ≤ k → length b ≤ k → Equal ≡ orderOf (compared rest-a rest-b)
+  from-equal h l = compare-equal rest-a rest-b (agreeing rest-a rest-b) refl (omega (arith, length-drop from a)) (omega (arith, length-drop from b))
+
+  pub from-prefix : length a ≤ k → k < length b → Less ≡ orderOf (compared rest-a rest-b)
+  from-prefix h l = compare-prefix rest-a rest-b (agreeing rest-a rest-b) refl (omega (arith, length-drop from a)) (omega (arith, length-drop from b))
+
+  module _ (h : k < length a) where
+    pub from-longer : length b ≤ k → Greater ≡ orderOf (compared rest-a rest-b)
+    from-longer l = compare-longer rest-a rest-b (agreeing rest-a rest-b) refl (omega (arith, length-drop from a)) (omega (arith, length-drop from b))
+
+    module _ (l : k < length b) where
+      byte-a : getD rest-a (agreeing rest-a rest-b) 0 ≡ getD a k 0
+      byte-a = getD-drop from a (agreeing rest-a rest-b) 0 ∙ ap (λ (n : ℕ). getD a n 0) (sym e)
+
+      byte-b : getD rest-b (agreeing rest-a rest-b) 0 ≡ getD b k 0
+      byte-b = getD-drop from b (agreeing rest-a rest-b) 0 ∙ ap (λ (n : ℕ). getD b n 0) (sym e)
+
+      pub from-less : getD a k 0 < getD b k 0 → Less ≡ orderOf (compared rest-a rest-b)
+      from-less m = compare-less rest-a rest-b (agreeing rest-a rest-b) refl (omega (arith, length-drop from a)) (omega (arith, length-drop from b)) (omega (arith, byte-a, byte-b))
+
+      pub from-greater : getD b k 0 ≤ getD a k 0 → Greater ≡ orderOf (compared rest-a rest-b)
+      from-greater m = compare-greater rest-a rest-b (agreeing rest-a rest-b) refl (omega (arith, length-drop from a)) (omega (arith, length-drop from b)) (omega (arith, byte-a, byte-b))
+
+-- the whole, from what stands behind k
+module _ (a b : List ℕ) (k : ℕ) (passed : EightsAgree a b k) where
+  pub compare-rest : (r : Order) → r ≡ orderOf (compared (drop k a) (drop k b)) → r ≡ orderOf (compared a b)
+  compare-rest r e = e ∙ ap orderOf (passed .decides)
+
+  module _ (la : 8 ≤ length a - k) (lb : 8 ≤ length b - k) (x y : ℕ) (ex : x ≡ beAt 8 a k) (ey : y ≡ beAt 8 b k) (sa : (j : ℕ) → getD a j 0 < 256) (sb : (j : ℕ) → getD b j 0 < 256) where
+    pub numbers-less : x < y → Less ≡ orderOf (compared a b)
+    numbers-less h = sym (ap orderOf (sym (passed .decides) ∙ by-numbers 8 a b k sa sb (omega arith) (omega arith) (omega arith)))
+
+    pub numbers-greater : y ≤ x → Greater ≡ orderOf (compared a b)
+    numbers-greater h =
+        let ne : x ≡ y → ⊥ = λ q. passed .differ (omega arith) (omega arith) (sym ex ∙ q ∙ ey) in
+        let m : y < x = not-same x y h ne in
+        sym (ap orderOf (sym (passed .decides) ∙ compared-flip (drop k b) (drop k a) ∙ ap flip (by-numbers 8 b a k sb sa (omega arith) (omega arith) (omega arith))))
 
 -- ---- then the stage
 
@@ -270,7 +379,7 @@ module _ (rs ps key : List ℕ) (stage : ℕ) where
   unfolding lookupAt
   lookup-near r e h = e ∙ sym (rw (le-ltb 3 stage (omega arith)))
 
-pub ruleset orders = (agree-start, agree-first, agree-second, agree-part, agree-more, compare-equal, compare-prefix, compare-longer, compare-less, compare-greater, stage-below, stage-beyond, stage-same, then-less, then-greater, then-second)
+pub ruleset orders = (agree-first, agree-second, agree-part, agree-more, eights-start, eights-first, eights-second, eights-differ, agree-is, from-equal, from-prefix, from-longer, from-less, from-greater, compare-rest, stage-below, stage-beyond, stage-same, then-less, then-greater, then-second)
 
 pub ruleset checks = (follows-first, follows-less, follows-equal, follows-greater, verify-start, verify-done, verify-outside, verify-not-after, verify-next)
 

@@ -3,13 +3,15 @@
 use mathlib.Core.Path.{_≡_, refl, sym, ap, subst, _∙_}
 use mathlib.Core.List.{List, [], _∷_}
 use mathlib.Core.Logic.{_⊎_, inl, inr, ⊎-elim}
-use Prim.Native.Nat.{ℕ, suc, _<_, _≤_}
+use Prim.Native.Nat.{ℕ, suc, _+_, _<_, _≤_}
 use native.Mathlib.Omega.{arith}
+use lib.ListN.{length, drop}
 use lib.Dec.{ltb, eqb}
 use borrow.Author.Tests.{lt-ltb, le-ltb}
 use Rattle.laws.specs.Pick.{pick}
 use Rattle.laws.specs.Tests.{tri}
 use Rattle.laws.specs.Order.{Before, irreflexive, transitive, Comparison, below, equal, beyond, compared, Compares, is-below, is-equal, is-beyond, compares, before-below, before-beyond, compared-same}
+use Rattle.wire.specs.BigEndian.{beAt}
 use Rattle.access.specs.declared.order.Order.{Order}
 use Rattle.access.specs.declared.order.Order.the-variants.{Less, Equal, Greater}
 
@@ -37,6 +39,13 @@ unfoldable pub agreeing : List ℕ → List ℕ → ℕ
 agreeing [] b = 0
 agreeing (x ∷ xs) [] = 0
 agreeing (x ∷ xs) (y ∷ ys) = pick (eqb x y) (suc (agreeing xs ys)) 0
+
+-- k leading bytes agree, so that what agrees is k and what agrees behind k; the eight behind k differ, where both have so many
+pub record EightsAgree (a b : List ℕ) (k : ℕ) : Type 0 where
+  pub inside : (k ≤ length a) × (k ≤ length b)
+  pub agrees : k + agreeing (drop k a) (drop k b) ≡ agreeing a b
+  pub decides : compared (drop k a) (drop k b) ≡ compared a b
+  pub differ : k + 8 ≤ length a → k + 8 ≤ length b → beAt 8 a k ≡ beAt 8 b k → ⊥
 
 -- ---- the relation
 

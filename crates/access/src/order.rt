@@ -1,23 +1,14 @@
 // The order of records: by the bytes of the path, unsigned, a prefix first; then by stage.
 ghost use mathlib.Core.Path.{_≡_};
-ghost use Prim.Native.Nat.{_+_, _≤_};
+ghost use Prim.Native.Nat.{_+_};
 ghost use lib.ListN.{drop};
 ghost use Rattle.laws.specs.Order.{compared};
-ghost use Rattle.access.specs.Order.{orderOf, stageOrder, thenBy, agreeing};
+ghost use Rattle.access.specs.Order.{orderOf, stageOrder, thenBy, agreeing, EightsAgree};
 
 pub enum Order {
     Less,
     Equal,
     Greater,
-}
-
-fn least(x: usize, y: usize) -> usize
-    ensures { λ r. ⌜ (r ≤ x) × (r ≤ y) ⌝ }
-{
-    if x < y {
-        return x;
-    }
-    y
 }
 
 // The first place from `from` on where a and b part, byte by byte.
@@ -37,28 +28,39 @@ fn agree_from(a: &[u8], b: &[u8], from: usize) -> usize
     k
 }
 
-// How many leading bytes agree. Eight are compared at a time while there are so many: paths of one index mostly share a long beginning.
-pub fn agree(a: &[u8], b: &[u8]) -> usize
-    ensures { λ r. ⌜ r ≡ agreeing (now (a .entry)) (now (b .entry)) ⌝ }
+// How many leading bytes agree, counted in eights: where the next eight differ, or fewer than eight are left of one of the two. Paths of one index mostly share a
+// long beginning, so this is where a comparison spends its time.
+fn agree_eights(a: &[u8], b: &[u8]) -> usize
+    ensures { λ r. ⌜ EightsAgree (now (a .entry)) (now (b .entry)) r ⌝ }
 {
-    let n = least(a.len(), b.len());
     let mut k: usize = 0;
-    while 8 <= n - k {
+    while 8 <= a.len() - k {
+        if b.len() - k < 8 {
+            return k;
+        }
         let x = wire::be64(a, k);
         let y = wire::be64(b, k);
         if x != y {
-            return agree_from(a, b, k);
+            return k;
         }
         k += 8;
     }
+    k
+}
+
+// How many leading bytes agree.
+pub fn agree(a: &[u8], b: &[u8]) -> usize
+    ensures { λ r. ⌜ r ≡ agreeing (now (a .entry)) (now (b .entry)) ⌝ }
+{
+    let k = agree_eights(a, b);
     agree_from(a, b, k)
 }
 
-// How path a stands to path b: decided by the first byte in which they part.
-pub fn compare(a: &[u8], b: &[u8]) -> Order
-    ensures { λ r. ⌜ r ≡ orderOf (compared (now (a .entry)) (now (b .entry))) ⌝ }
+// How path a stands to path b where fewer than eight bytes behind k are left of one of the two: decided by the first byte in which they part.
+fn compare_from(a: &[u8], b: &[u8], from: usize) -> Order
+    ensures { λ r. ⌜ r ≡ orderOf (compared (drop from (now (a .entry))) (drop from (now (b .entry)))) ⌝ }
 {
-    let k = agree(a, b);
+    let k = agree_from(a, b, from);
     if a.len() <= k {
         if k < b.len() {
             return Order::Less;
@@ -71,6 +73,25 @@ pub fn compare(a: &[u8], b: &[u8]) -> Order
     let x = a[k];
     let y = b[k];
     if x < y {
+        return Order::Less;
+    }
+    Order::Greater
+}
+
+// How path a stands to path b. Eight bytes that differ stand as the numbers that they spell.
+pub fn compare(a: &[u8], b: &[u8]) -> Order
+    ensures { λ r. ⌜ r ≡ orderOf (compared (now (a .entry)) (now (b .entry))) ⌝ }
+{
+    let k = agree_eights(a, b);
+    if a.len() - k < 8 {
+        return compare_from(a, b, k);
+    }
+    if b.len() - k < 8 {
+        return compare_from(a, b, k);
+    }
+    let ahead = wire::be64(a, k);
+    let behind = wire::be64(b, k);
+    if ahead < behind {
         return Order::Less;
     }
     Order::Greater
