@@ -1,20 +1,17 @@
 -- Demand 2: in a strictly sorted table lookup at stages 0 to 3 says absent exactly when no record has that path and stage, and found i exactly when record i has
 -- them; there is at most one such record. Assumes nothing.
 use mathlib.Core.Path.{_≡_, refl, sym, ap, _∙_}
-use mathlib.Core.Bool.{Bool, true, false}
 use mathlib.Core.List.{List}
 use mathlib.Core.Logic.{_⊎_, ⊎-elim}
 use Prim.Native.Nat.{ℕ, zero, suc, _+_, _-_, _/_, _≤_, _<_}
 use native.Mathlib.Omega.{arith}
-use lib.Dec.{ltb}
 use borrow.Author.Tests.{lt-ltb, le-ltb}
-use Rattle.laws.specs.Pick.{pick}
 use Rattle.laws.specs.Tests.{lt-or-ge, tri}
-use Rattle.entry.specs.Record.{recordsIn, stageAt, liesInside, pathAt}
-use Rattle.access.specs.Order.{Precedes, precedes-transitive, precedes-irreflexive, placed, precedes-less, precedes-greater, same-equal, less-precedes, equal-same, greater-precedes}
+use Rattle.entry.specs.Record.{recordsIn, stageAt, pathAt}
+use Rattle.access.specs.Order.{precedes-transitive, precedes-irreflexive, placed, precedes-less, precedes-greater, same-equal, less-precedes, equal-same, greater-precedes}
 use Rattle.access.specs.Lookup.{highestStage, probeAt, turn, halve, searchAt, lookupAt}
 use Rattle.access.specs.Steps.{halve-some, halve-none}
-use Rattle.access.specs.Sorted.{Lies, After, StrictlySorted, in-order, lies-yes, yes-lies}
+use Rattle.access.specs.Sorted.{Lies, After, StrictlySorted, in-order, lies-yes}
 use Rattle.access.specs.declared.order.Order.{Order}
 use Rattle.access.specs.declared.order.Order.the-variants.{Less, Equal, Greater}
 use Rattle.access.specs.declared.Probe.{Probe}

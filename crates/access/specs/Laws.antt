@@ -8,13 +8,13 @@ use native.Mathlib.Nat.{add-zero, sub-zero, mul-le-mul-right}
 use native.Mathlib.Numerals.{one-add}
 use native.Mathlib.Omega.{arith}
 use lib.ListN.{length, getD, drop, length-drop, drop-of-length-le}
-use lib.Dec.{ltb, eqb}
+use lib.Dec.{eqb}
 use lib.Seq.{getD-drop}
 use borrow.Author.Tests.{lt-ltb, le-ltb, eq-eqb, ne-eqb}
 use Rattle.laws.specs.Pick.{pick}
 use Rattle.laws.specs.Tests.{Same, same, differs, same?, lt-or-ge, tri}
 use Rattle.laws.specs.Lists.{drop-next}
-use Rattle.laws.specs.Order.{Comparison, below, equal, beyond, compared, compared-lt, compared-gt, compared-eq, flip, compared-flip}
+use Rattle.laws.specs.Order.{below, compared, compared-lt, compared-gt, compared-eq, flip, compared-flip}
 use Rattle.wire.specs.BigEndian.{beAt, be-small}
 use Rattle.wire.specs.Laws.{be-join}
 use Rattle.entry.specs.Record.{recordsIn, stageAt, liesInside, pathAt}
@@ -114,9 +114,6 @@ module _ (a b : List ℕ) (k : ℕ) (inv : EightsPassed a b k) (ha : k ≤ lengt
         let same-bytes = bytes-same 8 a b k sa sb (sym ex ∙ e ∙ ey) in
         let run : 8 + agreeing (drop (k + 8) a) (drop (k + 8) b) ≡ agreeing (drop k a) (drop k b) = agree-run 8 a b k (omega arith) (omega arith) same-bytes in
         record { agrees = omega (arith, inv .agrees); decides = compare-run 8 a b k (omega arith) (omega arith) same-bytes ∙ inv .decides }
-
-pub agree-is : (a b : List ℕ) (k r : ℕ) → EightsAgree a b k → r ≡ k + agreeing (drop k a) (drop k b) → r ≡ agreeing a b
-agree-is a b k r h e = e ∙ h .agrees
 
 -- bytes that differ stand as the numbers that they spell, which are less than 256 ^ w apart from their first byte on
 first-byte : (w : ℕ) (a : List ℕ) (k : ℕ) → beAt (suc w) a k ≡ getD a k 0 * 256 ^ w + beAt w a (k + 1)
@@ -379,7 +376,7 @@ module _ (rs ps key : List ℕ) (stage : ℕ) where
   unfolding lookupAt
   lookup-near r e h = e ∙ sym (rw (le-ltb 3 stage (omega arith)))
 
-pub ruleset orders = (agree-first, agree-second, agree-part, agree-more, eights-start, eights-first, eights-second, eights-differ, agree-is, from-equal, from-prefix, from-longer, from-less, from-greater, compare-rest, stage-below, stage-beyond, stage-same, then-less, then-greater, then-second)
+pub ruleset orders = (agree-first, agree-second, agree-part, agree-more, eights-start, eights-first, eights-second, eights-differ, from-equal, from-prefix, from-longer, from-less, from-greater, compare-rest, stage-below, stage-beyond, stage-same, then-less, then-greater, then-second)
 
 pub ruleset checks = (follows-first, follows-less, follows-equal, follows-greater, verify-start, verify-done, verify-outside, verify-not-after, verify-next)
 

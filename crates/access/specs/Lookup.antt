@@ -1,13 +1,11 @@
 -- Lookup by halving (01, Order and lookup): what it answers, the steps of the halving rule, and 01's number and value of each answer. Assumes nothing.
 use Prim.Native.Nat.{ℕ, zero, suc, _+_, _/_}
-use mathlib.Core.Bool.{Bool, true, false}
 use mathlib.Core.List.{List, [], _∷_}
 use lib.Dec.{ltb}
 use Rattle.laws.specs.Pick.{pick}
 use Rattle.refusal.specs.Refusal.{no-stage, path-outside}
 use Rattle.entry.specs.Record.{recordsIn, stageAt, liesInside, pathAt}
 use Rattle.access.specs.Order.{placed}
-use Rattle.access.specs.declared.order.Order.{Order}
 use Rattle.access.specs.declared.order.Order.the-variants.{Less, Equal, Greater}
 use Rattle.access.specs.declared.Probe.{Probe}
 use Rattle.access.specs.declared.Probe.the-variants.{Is, Outside}

@@ -11,7 +11,7 @@ use Rattle.access.specs.Verify.{followsAt, verifyFrom, verifyAt}
 use Rattle.access.specs.Lookup.{probeAt, halve, searchAt, lookupAt}
 use Rattle.access.specs.Sorted.{StrictlySorted, sorted-said}
 use Rattle.access.specs.declared.verify.Verified.the-variants.{Sorted}
-use Rattle.access.specs.declared.Found.the-variants.{At, Absent, NoStage}
+use Rattle.access.specs.declared.Found.the-variants.{At, Absent}
 
 -- a record of zeros but for its stage and its path's place
 unfoldable pub row : ℕ → ℕ → ℕ → List ℕ

@@ -7,12 +7,11 @@ use mathlib.Core.Logic.{_⊎_, ⊎-elim}
 use Prim.Native.Nat.{ℕ, zero, suc, _+_, _-_, _≤_, _<_}
 use native.Mathlib.Omega.{arith}
 use lib.ListN.{length}
-use lib.Dec.{ltb, leb, eqb}
-use borrow.Author.Tests.{lt-ltb, le-ltb, le-leb, leb-true, ltb-true, eq-eqb, ne-eqb}
+use borrow.Author.Tests.{le-leb, leb-true, eq-eqb, ne-eqb}
 use Rattle.laws.specs.Pick.{pick}
 use Rattle.laws.specs.Tests.{lt-or-ge, tri}
 use Rattle.entry.specs.Record.{recordsIn, startAt, endAt, stageAt, liesInside, pathAt}
-use Rattle.entry.specs.Laws.{inside-none, inside-crossed, inside-is}
+use Rattle.entry.specs.Laws.{inside-crossed, inside-is}
 use Rattle.access.specs.Order.{Precedes, precedes-transitive, placed, precedes-less, less-precedes}
 use Rattle.access.specs.Verify.{isLess, followsAt, verifyFrom, verifyAt}
 use Rattle.access.specs.declared.order.Order.{Order}

@@ -1,6 +1,6 @@
 -- How many records a lookup compares: the count that it answers is the halving rule's own steps, and at most 1 plus the whole part of the logarithm of the number
 -- of records (01, Order and lookup). Assumes nothing.
-use mathlib.Core.Path.{_≡_, refl, sym, ap, _∙_}
+use mathlib.Core.Path.{_≡_, refl, ap, _∙_}
 use mathlib.Core.Bool.{Bool, true, false}
 use mathlib.Core.Logic.{_⊎_, ⊎-elim}
 use mathlib.Core.List.{List}
@@ -14,7 +14,6 @@ use Rattle.laws.specs.Pick.{pick}
 use Rattle.laws.specs.Tests.{lt-or-ge, Less, less, not-less, less?}
 use Rattle.entry.specs.Record.{recordsIn}
 use Rattle.access.specs.Lookup.{highestStage, probeAt, turn, halve, searchAt, lookupAt, stepsAfter, steps}
-use Rattle.access.specs.declared.order.Order.{Order}
 use Rattle.access.specs.declared.order.Order.the-variants as order
 use Rattle.access.specs.declared.Probe.{Probe}
 use Rattle.access.specs.declared.Probe.the-variants.{Is, Outside}

@@ -1,26 +1,26 @@
 -- The record store keeps what it is given: each field, the id and the path of a record that was put are found, and every other record is as it was; over the
 -- length of an id. Assumes nothing.
 use mathlib.Core.Path.{_≡_, refl, sym, ap, _∙_}
-use mathlib.Core.Bool.{Bool, true, false}
+use mathlib.Core.Bool.{Bool, true}
 use mathlib.Core.List.{List, _++_}
 use mathlib.Core.Logic.{_⊎_, inl, inr, ⊎-elim}
 use Prim.Native.Nat.{ℕ, _+_, _-_, _*_, _/_, _^_, _≤_, _<_}
 use native.Mathlib.Nat.{add-assoc}
 use native.Mathlib.Omega.{arith}
 use lib.ListN.{length, getD, take, drop, replicate, length-append, List·getD-append}
-use lib.Dec.{ltb, leb, lit≤}
+use lib.Dec.{ltb, lit≤}
 use lib.Seq.{paste, length-paste, ext-getD}
-use borrow.Author.Tests.{lt-ltb, le-leb}
+use borrow.Author.Tests.{le-leb}
 use Rattle.laws.specs.Pick.{pick}
 use Rattle.laws.specs.Tests.{Less, less, not-less, less?, AtMost, at-most, above, at-most?, lt-or-ge}
 use Rattle.laws.specs.Lists.{length-part, getD-part, getD-right}
 use Rattle.laws.specs.Paste.{getD-before, getD-pasted, getD-after}
-use Rattle.wire.specs.BigEndian.{beAt, bytesOf, length-bytes, be-same, be-left, be-right, be-bytes, be-pasted, be-before, be-after}
+use Rattle.wire.specs.BigEndian.{beAt, bytesOf, length-bytes, be-same, be-left, be-right, be-bytes, be-pasted}
 use Rattle.entry.specs.Flags.{stageRaw}
 use Rattle.entry.specs.Mode.{modeIn}
 use Rattle.entry.specs.Record.{frontOf, restOf, recordOf, putRecord, fieldAt, flagsAt, modeAt, stageAt, startAt, endAt, idAt, liesInside, pathAt}
 use Rattle.entry.specs.Stat.{statAt, statIn}
-use Rattle.entry.specs.Laws.{mode-small, length-front, length-zeros, to-flags, to-start, to-end, length-rest, length-record, put-is-paste, field-is, id-is, id-out, inside-is, path-is}
+use Rattle.entry.specs.Laws.{mode-small, length-front, length-zeros, to-flags, to-start, to-end, length-record, put-is-paste, field-is, id-is, id-out, inside-is, path-is}
 
 -- the w bytes at k are the same in the entry and its record: they lie before the mode, or behind it and in the fields or the id
 abbrev pub Copied : ℕ → ℕ → ℕ → Type 0

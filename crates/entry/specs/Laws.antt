@@ -1,28 +1,23 @@
 -- Laws of a record's bytes: how long they are, what its fields are, and what the code's pastes come to. Assumes nothing.
 use mathlib.Core.Path.{_≡_, refl, sym, ap, _∙_}
-use mathlib.Core.Bool.{Bool, true, false}
+use mathlib.Core.Bool.{false}
 use mathlib.Core.List.{List, [], _++_, append-nil}
-use mathlib.Core.Logic.{_⊎_, ⊎-elim}
 use Prim.Native.Nat.{ℕ, _+_, _-_, _*_, _/_, _%_, _^_, _≤_, _<_}
 use native.Mathlib.Omega.{arith}
 use lib.ListN.{length, take, drop, replicate, length-append, length-replicate, drop-of-length-le}
-use lib.Dec.{ltb, leb, eqb, lit≤}
-use lib.Seq.{paste, length-paste, take-all}
+use lib.Dec.{leb, eqb, lit≤}
+use lib.Seq.{paste, take-all}
 use borrow.Author.Tests.{lt-ltb, le-ltb, le-leb, lt-leb, eq-eqb, ne-eqb}
-use Rattle.laws.specs.Pick.{pick}
-use Rattle.laws.specs.Lists.{length-part, getD-part}
+use Rattle.laws.specs.Lists.{length-part}
 use Rattle.laws.specs.Paste.{paste-then, paste-take}
 use Rattle.wire.specs.BigEndian.{beAt, bytesOf, length-bytes}
 use Rattle.entry.specs.Flags.{stageRaw, stageOf, extendedToMemory}
 use Rattle.entry.specs.Mode.{keepMode, directory, modeIn, dirAt}
 use Rattle.entry.specs.Record.{frontOf, restOf, recordOf, putRecord, fieldAt, startAt, endAt, idAt, liesInside, pathAt}
 use Rattle.entry.specs.Stat.{timeOf, statAt}
-use Rattle.entry.specs.declared.flags.Stage.{Stage}
 use Rattle.entry.specs.declared.flags.Stage.the-variants.{Unconflicted, Base, Ours, Theirs}
-use Rattle.entry.specs.declared.flags.Extended.{Extended}
 use Rattle.entry.specs.declared.flags.Extended.the-variants.{Kept, Unknown}
 use Rattle.entry.specs.declared.stat.Time.{Time}
-use Rattle.entry.specs.declared.stat.Stat.{Stat}
 
 -- ---- the flags
 
