@@ -13,7 +13,7 @@ fn main() {
     // one byte more than is read, so that longer input is seen
     let mut file = [0u8; 65537];
     let n = io::read_full(STDIN_FILENO, &mut file);
-    // more than any listing has: 51 bytes for each of 512 lines, and 65,536 path bytes
+    // room for 512 lines of 51 bytes and for 65,536 path bytes, each of which is of one path alone
     let mut out = [0u8; 91648];
     let size = listing::list_file(&file[..n], &mut out);
     write(&out, size);

@@ -65,8 +65,7 @@ fn write_too_big(out: &mut [u8]) -> usize
     8
 }
 
-// Writes what the listing program prints of a file, and answers how long that is; where it does not fit, out stays as it was. A listing is never longer than 91,648
-// bytes.
+// Writes what the listing program prints of a file, and answers how long that is; where it does not fit, out stays as it was.
 pub fn list_file(file: &[u8], out: &mut [u8]) -> usize
     ensures { λ r. ⌜ outcome r (now (out .exit)) ≡ written (listed 20 64 (now (file .entry))) (now (out .entry)) ⌝ }
 {
