@@ -1,4 +1,4 @@
--- Numbers in digits and names up to a NUL: what the reader's definition answers is spelled (`says`), and what is spelled is read (`complete`). Assumes nothing.
+-- Numbers in digits: what the reader's definition answers is spelled (`says`), and what is spelled is read (`complete`). Assumes nothing.
 use Prim.Native.Nat.{ℕ, zero, suc, _+_, _-_, _*_, _^_, _≤_, _<_}
 use mathlib.Core.Path.{_≡_, refl, sym, ap, _∙_, subst}
 use mathlib.Core.List.{List, [], _∷_, _++_, append-assoc}
@@ -12,60 +12,14 @@ use borrow.Author.Tests.{lt-ltb, le-ltb, le-leb, lt-leb, eq-eqb, ne-eqb}
 use Rattle.laws.specs.Pick.{pick}
 use Rattle.laws.specs.Tests.{Less, less, not-less, less?, AtMost, at-most, above, at-most?, lt-or-ge, Same, same, differs, same?}
 use Rattle.laws.specs.Lists.{drop-next}
-use Rattle.slices.specs.Bytes.{nulIn, nulAt}
-use Rattle.slices.specs.declared.Ends.{Ends}
-use Rattle.slices.specs.declared.Ends.the-variants.{With, Never}
 use Rattle.wire.specs.Digits.{isDigit, grown, onGrown, digitsIn, unsignedAt, plain, negated, signedAt}
 use Rattle.wire.specs.declared.Unsigned.{Unsigned}
 use Rattle.wire.specs.declared.Unsigned.the-variants.{Value, Bad}
 use Rattle.wire.specs.declared.Signed.{Signed}
 use Rattle.wire.specs.declared.Signed.the-variants.{Plain, Negative, NoNumber}
 use Rattle.grammar.specs.Number.{Digit, Digits, last-digit, digit, Count, covers, invalid, Signed as SignedNumber, plain as no-sign, plus, minus-zero, minus}
-use Rattle.grammar.specs.Entry.{NoNul, empty, byte}
-use Rattle.claims_tree.specs.Place.{Lies, lies-head, lies-tail, lies-cons}
-
--- ---- bytes up to a NUL
-
-data SaysIn (f : ℕ) (l : List ℕ) (i : ℕ) : Ends → Type 0 where
-  ends : {z : ℕ} (b r : List ℕ) → l ≡ b ++ (0 ∷ r) → length b < f → z ≡ i + length b → NoNul b → SaysIn f l i (With z)
-  never : SaysIn f l i Never
-
-nul-in-says : (f : ℕ) (l : List ℕ) (i : ℕ) → SaysIn f l i (nulIn f l i)
-unfolding nulIn
-nul-in-says zero l i = never
-nul-in-says (suc f) [] i = never
-nul-in-says (suc f) (c ∷ l) i = go (same? c 0) (nul-in-says f l (i + 1))
-  where
-    go : {t : Bool} → Same c 0 t → {g : Ends} → SaysIn f l (i + 1) g → SaysIn (suc f) (c ∷ l) i (pick t (With i) g)
-    go (same e) z = ends [] l (ap (_∷ l) e) (omega arith) (sym (add-zero i)) empty
-    go (differs e) never = never
-    go (differs e) (ends b r x n y k) = let turn : i + 1 + length b ≡ i + length (c ∷ b) = omega arith in ends (c ∷ b) r (ap (c ∷_) x) (omega arith) (y ∙ turn) (byte {c = c} (omega arith) k)
-
-nul-in-complete : {b : List ℕ} → NoNul b → (f : ℕ) → length b < f → (r : List ℕ) (i : ℕ) → nulIn f (b ++ (0 ∷ r)) i ≡ With (i + length b)
-unfolding nulIn
-nul-in-complete empty zero h r i = absurd (omega arith)
-nul-in-complete empty (suc f) h r i = ap With (sym (add-zero i))
-nul-in-complete (byte k x) zero h r i = absurd (omega arith)
-nul-in-complete (byte {c = c} {s = b} k x) (suc f) h r i =
-    let e : i + 1 + length b ≡ i + length (c ∷ b) = omega arith in
-    rw (ne-eqb c 0 (λ q. omega arith)) (nul-in-complete x f (omega arith) r (i + 1) ∙ ap With e)
-
-pub data SaysNul (s : List ℕ) (at end : ℕ) : Ends → Type 0 where
-  ends : {z : ℕ} (b : List ℕ) → Lies s at end (b ++ (0 ∷ [])) → z ≡ at + length b → NoNul b → SaysNul s at end (With z)
-  never : SaysNul s at end Never
-
-pub nul-says : (s : List ℕ) (at end : ℕ) → SaysNul s at end (nulAt s at end)
-unfolding nulAt
-nul-says s at end = go (nul-in-says (end - at) (drop at s) at)
-  where
-    go : {g : Ends} → SaysIn (end - at) (drop at s) at g → SaysNul s at end g
-    go never = never
-    go (ends b r e n x k) = ends b (record { fits = omega (arith, length-append b (0 ∷ [])); rest = r; is = e ∙ sym (append-assoc b (0 ∷ []) r) }) x k
-
-pub nul-complete : {b : List ℕ} → NoNul b → (p : List ℕ) {s : List ℕ} {at end : ℕ} → Lies s at end (b ++ (0 ∷ p)) → nulAt s at end ≡ With (at + length b)
-unfolding nulAt
-nul-complete {b} x p {s} {at} {end} l =
-    rw (l .is, append-assoc b (0 ∷ p) (l .rest)) (nul-in-complete x (end - at) (omega (arith, l .fits, length-append b (0 ∷ p))) (p ++ l .rest) at)
+use Rattle.claims_entries.specs.Place.{Lies}
+use Rattle.claims_tree.specs.Place.{lies-head, lies-tail, lies-cons}
 
 -- ---- digits
 

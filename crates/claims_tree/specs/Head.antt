@@ -25,8 +25,10 @@ use Rattle.node.specs.Head.{countHalf, mostSubtrees, minusOne, spacedAt, endedA
 use Rattle.grammar.specs.Number.{Count, covers, invalid, Unsigned as UnsignedNumber, Signed as SignedNumber}
 use Rattle.grammar.specs.Entry.{NoNul}
 use Rattle.grammar.specs.Tree.{Head, Id, of-tree, no-id, NodeHead, node-head}
-use Rattle.claims_tree.specs.Place.{Lies, part, lies-at, lies-take, lies-left, lies-right, lies-then, lies-cons, lies-head, lies-tail, lies-part, lies-from, lies-to}
-use Rattle.claims_tree.specs.Digits.{SaysNul, ends, never, nul-says, nul-complete, SaysUnsigned, value, bad, unsigned-says, unsigned-complete, Counts, counts-plain, counts-negative, SaysSigned, count, no-count, signed-says, signed-complete}
+use Rattle.claims_entries.specs.Place.{Lies, lies-take, lies-left, lies-right, lies-then, lies-part, lies-from, lies-to}
+use Rattle.claims_entries.specs.Parts.{SaysNul, ends, never, nul-says, nul-complete}
+use Rattle.claims_tree.specs.Place.{part, lies-cons, lies-head, lies-tail}
+use Rattle.claims_tree.specs.Digits.{SaysUnsigned, value, bad, unsigned-says, unsigned-complete, Counts, counts-plain, counts-negative, SaysSigned, count, no-count, signed-says, signed-complete}
 use Rattle.claims_tree.specs.Rendering.{countWord}
 
 -- ---- what stands behind the count: a space, the subtree count, a newline, and an id of so many bytes
@@ -104,7 +106,7 @@ word-of : {n : ℕ} {c : Count} {word bytes : ℕ} → Sized n c word bytes → 
 word-of sized = refl
 word-of unsized = refl
 
-module _ (n : ℕ) (s : List ℕ) (at end : ℕ) (inside : end ≤ length s) where
+module _ (n : ℕ) (s : List ℕ) (at end : ℕ) (ahead : at ≤ end) (inside : end ≤ length s) where
   joined : {c : Count} {word bytes stop : ℕ} (name b : List ℕ) → Lies s at end (name ++ (0 ∷ [])) → stop ≡ at + length name → NoNul name → Lies s (stop + 1) end b → SignedNumber b c → Sized n c word bytes
       → {g : HeadAnswer} → SaysBehind s (stop + 1 + length b) end at stop word bytes g → SaysHead n s at end g
   joined name b l e y m z w nothing = nothing
@@ -131,7 +133,7 @@ module _ (n : ℕ) (s : List ℕ) (at end : ℕ) (inside : end ≤ length s) whe
 
   head-says : SaysHead n s at end (headAt n s at end)
   unfolding headAt namedAt countedAt
-  head-says = rw (le-ltb (length s) end inside) (of (nul-says s at end))
+  head-says = rw (le-ltb (length s) end inside) (of (nul-says s at end ahead))
     where
       counted : {stop : ℕ} (name : List ℕ) → Lies s at end (name ++ (0 ∷ [])) → stop ≡ at + length name → NoNul name → {g : Signed} → SaysSigned s (stop + 1) end g → SaysHead n s at end (countedAt n s end at stop g)
       counted name l e y no-count = nothing
@@ -178,7 +180,7 @@ pub data HeadSaid (n : ℕ) (s : List ℕ) (at end : ℕ) : HeadAnswer → Type 
   head-missing : ((v : Head) (rest : List ℕ) → ¬ Begins (NodeHead n) (part s at end) v rest) → HeadSaid n s at end Nothing
 
 pub head-said : (n : ℕ) (s : List ℕ) (at end : ℕ) → at ≤ end → end ≤ length s → HeadSaid n s at end (headAt n s at end)
-head-said n s at end ahead inside = go (headAt n s at end) refl (head-says n s at end inside)
+head-said n s at end ahead inside = go (headAt n s at end) refl (head-says n s at end ahead inside)
   where
     go : (g : HeadAnswer) → headAt n s at end ≡ g → SaysHead n s at end g → HeadSaid n s at end g
     go g e (is-head h v l u t) = head-there h v (l .fits) (lies-to s at end h ahead inside l) u t

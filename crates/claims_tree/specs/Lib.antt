@@ -6,3 +6,4 @@ pub mod Head
 pub mod Siblings
 pub mod Steps
 pub mod Walk
+pub mod Claims

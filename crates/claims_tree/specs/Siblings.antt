@@ -5,48 +5,12 @@ use mathlib.Core.List.{List, [], _∷_}
 use mathlib.Core.Bool.{Bool, true, false}
 use mathlib.Core.Logic.{_⊎_, inl, inr, ⊎-elim}
 use native.Mathlib.Omega.{arith}
-use borrow.Author.Tests.{eq-eqb}
-use Rattle.laws.specs.Pick.{pick}
-use Rattle.laws.specs.Tests.{lt-or-ge, tri}
-use Rattle.slices.specs.Bytes.{sameBytes}
-use Rattle.slices.specs.Laws.{same-refl}
+use Rattle.laws.specs.Tests.{lt-or-ge}
 use Rattle.node.specs.Store.{parentAt, nameAt}
-use Rattle.siblings.specs.Siblings.{anyIn, isChild, twin, repeats, siblingsDiffer}
-use Rattle.siblings.specs.InOrder.{Distinct as DistinctAt, distinct-differ}
+use Rattle.siblings.specs.Siblings.{siblingsDiffer}
+use Rattle.siblings.specs.InOrder.{Distinct as DistinctAt, distinct-differ, differ-distinct}
 use Rattle.grammar.specs.Tree.{Other, alone, differs, Distinct, no-names, one-more}
 use Rattle.grammar.specs.DecideTree.{IsDistinct, is-distinct, repeats as repeated}
-
--- ---- what the search says where it finds nothing
-
-any-none : (p : ℕ → Bool) (f i : ℕ) → anyIn p f i ≡ false → (k : ℕ) → i ≤ k → k < i + f → p k ≡ true → ⊥
-unfolding anyIn
-any-none p zero i e k h l q = omega arith
-any-none p (suc f) i e k h l q = by (p i) refl e (any-none p f (i + 1))
-  where
-    by : (t : Bool) → p i ≡ t → pick t true (anyIn p f (i + 1)) ≡ false → (anyIn p f (i + 1) ≡ false → (k : ℕ) → i + 1 ≤ k → k < i + 1 + f → p k ≡ true → ⊥) → ⊥
-    by true a b ih = let z : _≡_ {A = ℕ} 0 1 = cc in omega arith
-    by false a b ih = ⊎-elim (λ (m : i < k). ih b k (omega arith) (omega arith) q) (λ m. let n : i ≡ k = omega arith in let z : _≡_ {A = ℕ} 0 1 = cc (ap p n) in omega arith) (lt-or-ge i k)
-
-differ-distinct : (names ns : List ℕ) (parent first used : ℕ) → siblingsDiffer names ns parent first used ≡ true → DistinctAt names ns parent first used
-unfolding siblingsDiffer repeats twin
-differ-distinct names ns parent first used e i j h k l p q r = by (anyIn (repeats names ns parent first) (used - first) first) refl e
-  where
-    twins : twin names ns parent i j ≡ true
-    twins = rw (eq-eqb (parentAt ns j) parent q, r) (same-refl (nameAt names ns j))
-
-    found : anyIn (twin names ns parent i) (i - first) first ≡ true
-    found = of (anyIn (twin names ns parent i) (i - first) first) refl
-      where
-        of : (t : Bool) → anyIn (twin names ns parent i) (i - first) first ≡ t → t ≡ true
-        of true a = refl
-        of false a = absurd (any-none (twin names ns parent i) (i - first) first a j h (omega arith) twins)
-
-    repeat : repeats names ns parent first i ≡ true
-    repeat = rw (eq-eqb (parentAt ns i) parent p) found
-
-    by : (t : Bool) → anyIn (repeats names ns parent first) (used - first) first ≡ t → pick t false true ≡ true → ⊥
-    by true a b = let z : _≡_ {A = ℕ} 0 1 = cc in omega arith
-    by false a b = any-none (repeats names ns parent first) (used - first) first a i (omega arith) (omega arith) repeat
 
 -- ---- the children, in file order
 

@@ -15,7 +15,7 @@ use Rattle.node.specs.declared.Node.{Node as Fields}
 use Rattle.node.specs.declared.Head.{Head as HeadAnswer}
 use Rattle.node.specs.declared.Head.the-variants.{Is, Nothing}
 use Rattle.node.specs.Head.{headAt}
-use Rattle.node.specs.Store.{numbersOf, idOf, nodeOf, putAt, parentAt, nameAt}
+use Rattle.node.specs.Store.{numbersOf, idOf, nodeOf, putAt, nameStartAt, nameEndAt, parentAt, nameAt}
 use Rattle.node.specs.Laws.{length-node, word-same, name-same, name-part}
 use Rattle.siblings.specs.Siblings.{siblingsDiffer}
 use Rattle.siblings.specs.InOrder.{Grows}
@@ -24,7 +24,7 @@ use Rattle.tree.specs.declared.Fault.the-variants.{Unspelled, Deep, Full}
 use Rattle.tree.specs.declared.Step.{Step}
 use Rattle.tree.specs.declared.Step.the-variants.{Read, Stops}
 use Rattle.tree.specs.Tree.{Out, andThen, kids, settledAs, settled, body, nodeAt}
-use Rattle.tree.specs.Frame.{Kept, node-kept, kids-frame, full, put-paste, put-long, put-start, put-stop, put-parent}
+use Rattle.tree.specs.Frame.{Kept, node-kept, kids-frame, spelled, full, put-paste, put-long, put-start, put-stop, put-parent}
 use Rattle.tree.specs.Inside.{node-grows}
 use Rattle.grammar.specs.Tree.{Tree, tree, Subtrees, childless, beside, nameOf, names, depth, deepest, nodes, nodesOf, Head, NodeHead, Distinct, Node, node, Nodes, no-node, one-node}
 use Rattle.grammar.specs.Descent.{Comes, ComesAmong}
@@ -105,7 +105,7 @@ module _ (n : ℕ) (fits : n ≤ 32) (s : List ℕ) (end : ℕ) (inside : end �
   kids-say zero at used r ns h less room small =
       let a : at + 0 ≡ at = add-zero at in
       let u : used + 0 ≡ used = add-zero used in
-      let read : SaysKids n s end d me 0 at used r ns (Read (at + length []) (used + nodesOf childless), ns) =
+      let read : SaysKids n s end d me 0 at used r ns (Read (at + 0) (used + 0), ns) =
       are-read {b = []} {ts = childless} (omega arith) (ap (λ (m : ℕ). part s m end) (sym a)) no-node (omega arith) (omega arith) none-left refl (sym (put-none ns (used * 72))) (rw u no-more) in
       rw (a, u) at read
   kids-say (suc l) at used r ns h less room small = go (reading at used ns) refl (rec me at used r ns h (omega arith) room small) (λ p v q ms. kids-say l p v q ms)
@@ -122,3 +122,111 @@ module _ (n : ℕ) (fits : n ≤ 32) (s : List ℕ) (end : ℕ) (inside : end �
           let small₂ : length ms < 256 ^ 8 = rw long small in
           one-more-read {l = l} less (omega arith) small e i u x y w size stored par nam (kids reading l (at + length b) (used + nodes t) ms) refl
           (next (at + length b) (used + nodes t) (r - nodes t) ms a (omega arith) room₂ small₂)
+
+-- ---- a node
+
+-- how many subtrees a head says is how many there are
+how-many : {n p l : ℕ} {b : List ℕ} {ts : Subtrees} → Nodes n p l b ts → l ≡ howMany ts
+how-many no-node = refl
+how-many (one-node u us i) = ap suc (how-many us)
+
+node-bytes : {s : List ℕ} {at : ℕ} {h : List ℕ} {v : Head} {m : Fields} → Told s at h v m → (parent : ℕ) → nodeOf s m parent ≡ nodeBytes at (v .name) (v .count) (v .subtrees) parent (v .id)
+unfolding nodeOf numbersOf idOf nodeBytes
+node-bytes t parent = rw (t .starts, t .stops, t .counts, t .subtrees, t .id, t .id-length)
+
+module _ (n : ℕ) (fits : n ≤ 32) (s : List ℕ) (end : ℕ) (inside : end ≤ length s) (short : length s < 256 ^ 8) where
+  -- the store with the node itself
+  record Put (parent at used : ℕ) (ns ps : List ℕ) (v : Head) : Type 0 where
+    long : length ps ≡ length ns
+    size : length (nodeBytes at (v .name) (v .count) (v .subtrees) parent (v .id)) ≡ 72
+    stored : ps ≡ put ns (used * 72) (nodeBytes at (v .name) (v .count) (v .subtrees) parent (v .id))
+    parented : parentAt ps used ≡ parent
+    named : nameAt s ps used ≡ v .name
+
+  put-node : {parent at used : ℕ} {ns h : List ℕ} {v : Head} {m : Fields} → at ≤ end → parent < 256 ^ 8 → used < length ns / 72 → headAt n s at end ≡ Is m → Told s at h v m → Put parent at used ns (putAt s m parent ns used) v
+  put-node {parent} {at} {used} {ns} {h} {v} {m} ahead low room q t =
+      let sp = spelled n fits s at end m parent ns used room q in
+      let w : length (nodeOf s m parent) ≡ 72 = full n fits s at end m parent ns used room q in
+      let b : at ≡ nameStartAt (putAt s m parent ns used) used = sym (put-start n fits s at end m parent ns used room q (omega (arith, t .starts)) ∙ t .starts) in
+      let e : at + length (v .name) ≡ nameEndAt (putAt s m parent ns used) used = sym (put-stop n fits s at end m parent ns used room q (omega (arith, sp .stops)) ∙ t .stops) in
+      let sub : at + length (v .name) - at ≡ length (v .name) = omega arith in
+      record {
+        long = put-long n fits s at end m parent ns used room q;
+        size = ap length (sym (node-bytes t parent)) ∙ w;
+        stored = put-paste n fits s at end m parent ns used room q ∙ paste-put ns (nodeOf s m parent) (used * 72) 72 (sym w) ∙ ap (put ns (used * 72)) (node-bytes t parent);
+        parented = put-parent n fits s at end m parent ns used room q low;
+        named = sym (name-part s (putAt s m parent ns used) used at (at + length (v .name)) b e (omega arith) (omega (arith, t .stops, sp .stops)))
+            ∙ ap (λ (k : ℕ). take k (drop at s)) sub ∙ t .named;
+      }
+
+  -- its last subtree is done
+  settle : {d parent at used r next v : ℕ} {ns ps h b : List ℕ} {head : Head} {ts : Subtrees} {ms : List ℕ} → at + length h ≤ end → part s at end ≡ h ++ part s (at + length h) end → NodeHead n h head
+      → Put parent at used ns ps head → used * 72 ≤ length ns → parentAt ms used ≡ parentAt ps used → nameAt s ms used ≡ nameAt s ps used → at + length h + length b ≤ end
+      → part s (at + length h) end ≡ b ++ part s (at + length h + length b) end → Nodes n (at + length h) (head .subtrees) b ts → deepest ts ≤ d → nodesOf ts ≤ r
+      → ((e k : ℕ) → ComesAmong n (at + length h) (head .subtrees) (part s (at + length h) end) e k → (e ≤ d) × (k < r)) → length (subtreesBytes used (used + 1) ts) ≡ nodesOf ts * 72
+      → ms ≡ put ps ((used + 1) * 72) (subtreesBytes used (used + 1) ts) → next ≡ at + length h + length b → v ≡ used + 1 + nodesOf ts → {t : Bool} → IsDistinct (names ts) t
+      → SaysNode n s end (suc d) parent at used (suc r) ns (pick t (Read next v) (Stops Unspelled), ms)
+  settle {at = at} {h = h} {b = b} a i u put start par nam c j us x y w size stored en ev (repeats not) =
+      is-unspelled (repeated at (part s (at + length h) end) (part s (at + length h + length b) end) u i us j not w)
+  settle {d} {parent} {at} {used} {r} {next} {v} {ns} {ps} {h} {b} {head} {ts} {ms} a i u put₁ start par nam c j us x y w size stored en ev (is-distinct dd) =
+      let t : Tree = tree at (head .name) (head .count) (head .id) ts in
+      let both : next ≡ at + length (h ++ b) = omega (arith, length-append h b) in
+      let count : v ≡ used + nodes t = omega arith in
+      let own : List ℕ = nodeBytes at (head .name) (head .count) (head .subtrees) parent (head .id) in
+      let subs : List ℕ = subtreesBytes used (used + 1) ts in
+      let same : own ++ subs ≡ nodesBytes parent used t = ap (λ (k : ℕ). nodeBytes at (head .name) (head .count) k parent (head .id) ++ subs) (how-many us) in
+      let place : (used + 1) * 72 ≡ used * 72 + length own = omega (arith, put₁ .size) in
+      let cut : part s at end ≡ (h ++ b) ++ part s (at + length h + length b) end = i ∙ ap (λ (m : List ℕ). h ++ m) j ∙ sym (append-assoc h b (part s (at + length h + length b) end)) in
+      let read : SaysNode n s end (suc d) parent at used (suc r) ns (Read (at + length (h ++ b)) (used + nodes t), ms) =
+      is-read {b = h ++ b} {t = t} {ms = ms} (omega arith) (cut ∙ ap (λ (m : ℕ). (h ++ b) ++ part s m end) (sym en ∙ both)) (node u us dd refl) (omega arith) (omega arith)
+      (below-within at (part s (at + length h) end) u i w)
+      (ap length (sym same) ∙ omega (arith, length-append own subs, put₁ .size))
+      (stored ∙ (λ m. put (put₁ .stored m) (place m) subs) ∙ put-put ns own subs (used * 72) start ∙ ap (put ns (used * 72)) same)
+      (par ∙ put₁ .parented) (nam ∙ put₁ .named) in
+      subst (λ (m : ℕ). SaysNode n s end (suc d) parent at used (suc r) ns (Read m v, ms)) (sym both)
+      (subst (λ (m : ℕ). SaysNode n s end (suc d) parent at used (suc r) ns (Read (at + length (h ++ b)) m, ms)) (sym count) read)
+
+  module _ (d : ℕ)
+      (rec : (parent at used r : ℕ) (ns : List ℕ) → at ≤ end → parent < 256 ^ 8 → used + r ≡ length ns / 72 → length ns < 256 ^ 8 → SaysNode n s end d parent at used r ns (nodeAt n s end d parent at used ns))
+      (parent at used r : ℕ) (ns : List ℕ) (ahead : at ≤ end) (low : parent < 256 ^ 8) (room : used + suc r ≡ length ns / 72) (small : length ns < 256 ^ 8) where
+    below : {h : List ℕ} {v : Head} {ps : List ℕ} → at + length h ≤ end → part s at end ≡ h ++ part s (at + length h) end → NodeHead n h v → Put parent at used ns ps v
+        → (o : Out) → kids (nodeAt n s end d used) (v .subtrees) (at + length h) (used + 1) ps ≡ o → SaysKids n s end d used (v .subtrees) (at + length h) (used + 1) r ps o
+        → SaysNode n s end (suc d) parent at used (suc r) ns (settled s used o)
+    unfolding settledAs
+    below {h} a i u put₁ o e (are-unspelled f) = is-unspelled (below-faulty at (part s (at + length h) end) u i f)
+    below {h} a i u put₁ o e (are-full f) = is-full (below-crowded at (part s (at + length h) end) u i f)
+    below {h} a i u put₁ o e (are-deep f) = is-deep (below-deep at (part s (at + length h) end) u i f)
+    below {h} {v} {ps} a i u put₁ o e (are-read {b = b} {ts = ts} {ms = ms} c j us x y w size stored ch) =
+        let kept : Kept (used + 1) (used + 1) ps (kids (nodeAt n s end d used) (v .subtrees) (at + length h) (used + 1) ps) = kids-frame n fits s end d used (v .subtrees) (at + length h) (used + 1) ps in
+        let long : length ms ≡ length ps = ap (λ (o : Out). length (o .1)) (sym e) ∙ kept .long in
+        let same : (k : ℕ) → k < 72 → getD ms (used * 72 + k) 0 ≡ getD ps (used * 72 + k) 0 = λ k p. ap (λ (o : Out). getD (o .1) (used * 72 + k) 0) (sym e) ∙ kept .low (used * 72 + k) (omega arith) in
+        settle {b = b} {ts = ts} a i u put₁ (omega arith) (word-same ps ms used long same 32 (lit≤ tt)) (name-same ps ms used long same s) c j us x y w size stored refl refl (differ? ch)
+
+    from-head : (g : HeadAnswer) → headAt n s at end ≡ g → HeadSaid n s at end g → SaysNode n s end (suc d) parent at used (suc r) ns (body s (nodeAt n s end d) parent used ns g)
+    from-head g q (head-missing none) = is-unspelled (no-head none)
+    from-head g q (head-there {m = m} h v a i u t) =
+        let ps : List ℕ = putAt s m parent ns used in
+        let put₁ : Put parent at used ns ps v = put-node {used = used} {ns = ns} ahead low (omega arith) q t in
+        let room₂ : used + 1 + r ≡ length ps / 72 = rw (put₁ .long) (omega arith) in
+        let small₂ : length ps < 256 ^ 8 = rw (put₁ .long) small in
+        let said : SaysKids n s end d used (v .subtrees) (at + length h) (used + 1) r ps (kids (nodeAt n s end d used) (v .subtrees) (at + length h) (used + 1) ps) =
+        kids-say n fits s end inside d rec used (v .subtrees) (at + length h) (used + 1) r ps a (omega arith) room₂ small₂ in
+        subst (λ (l : ℕ). SaysNode n s end (suc d) parent at used (suc r) ns (settled s used (kids (nodeAt n s end d used) l (m .next) (used + 1) ps))) (sym (t .subtrees))
+        (subst (λ (p : ℕ). SaysNode n s end (suc d) parent at used (suc r) ns (settled s used (kids (nodeAt n s end d used) (v .subtrees) p (used + 1) ps))) (sym (t .next))
+        (below a i u put₁ (kids (nodeAt n s end d used) (v .subtrees) (at + length h) (used + 1) ps) refl said))
+
+  -- THE WALK
+  pub node-says : (d parent at used r : ℕ) (ns : List ℕ) → at ≤ end → parent < 256 ^ 8 → used + r ≡ length ns / 72 → length ns < 256 ^ 8 → SaysNode n s end d parent at used r ns (nodeAt n s end d parent at used ns)
+  unfolding nodeAt
+  node-says zero parent at used r ns ahead low room small = is-deep (too-deep r)
+  node-says (suc d) parent at used r ns ahead low room small = by (at-most? (length ns / 72) used) (λ p a u q ms. node-says d p a u q ms)
+    where
+      by : {t : Bool} → AtMost (length ns / 72) used t
+          → ((p a u q : ℕ) (ms : List ℕ) → a ≤ end → p < 256 ^ 8 → u + q ≡ length ms / 72 → length ms < 256 ^ 8 → SaysNode n s end d p a u q ms (nodeAt n s end d p a u ms))
+          → SaysNode n s end (suc d) parent at used r ns (pick t (Stops Full, ns) (body s (nodeAt n s end d) parent used ns (headAt n s at end)))
+      by (at-most h) rec = let z : 0 ≡ r = omega arith in subst (λ (q : ℕ). SaysNode n s end (suc d) parent at used q ns (Stops Full, ns)) z (is-full no-room)
+      by (above h) rec =
+          let z : suc (r - 1) ≡ r = omega arith in
+          let room₂ : used + suc (r - 1) ≡ length ns / 72 = omega arith in
+          subst (λ (q : ℕ). SaysNode n s end (suc d) parent at used q ns (body s (nodeAt n s end d) parent used ns (headAt n s at end))) z
+          (from-head d rec parent at used (r - 1) ns ahead low room₂ small (headAt n s at end) refl (head-said n s at end ahead inside))
