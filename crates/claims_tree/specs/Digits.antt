@@ -1,14 +1,13 @@
 -- Numbers in digits: what the reader's definition answers is spelled (`says`), and what is spelled is read (`complete`). Assumes nothing.
-use Prim.Native.Nat.{ℕ, zero, suc, _+_, _-_, _*_, _^_, _≤_, _<_}
+use Prim.Native.Nat.{ℕ, zero, suc, _+_, _-_, _*_, _≤_, _<_}
 use mathlib.Core.Path.{_≡_, refl, sym, ap, _∙_, subst}
 use mathlib.Core.List.{List, [], _∷_, _++_, append-assoc}
 use mathlib.Core.Bool.{Bool, true, false}
 use mathlib.Core.Logic.{⊎-elim}
 use native.Mathlib.Omega.{arith}
 use native.Mathlib.Nat.{add-zero}
-use lib.Dec.{leb}
 use lib.ListN.{length, getD, drop, length-append}
-use borrow.Author.Tests.{lt-ltb, le-ltb, le-leb, lt-leb, eq-eqb, ne-eqb}
+use borrow.Author.Tests.{lt-ltb, le-ltb, le-leb, lt-leb, ne-eqb}
 use Rattle.laws.specs.Pick.{pick}
 use Rattle.laws.specs.Tests.{Less, less, not-less, less?, AtMost, at-most, above, at-most?, lt-or-ge, Same, same, differs, same?}
 use Rattle.laws.specs.Lists.{drop-next}
@@ -17,6 +16,7 @@ use Rattle.wire.specs.declared.Unsigned.{Unsigned}
 use Rattle.wire.specs.declared.Unsigned.the-variants.{Value, Bad}
 use Rattle.wire.specs.declared.Signed.{Signed}
 use Rattle.wire.specs.declared.Signed.the-variants.{Plain, Negative, NoNumber}
+use Rattle.node.specs.Head.{countHalf}
 use Rattle.grammar.specs.Number.{Digit, Digits, last-digit, digit, Count, covers, invalid, Signed as SignedNumber, plain as no-sign, plus, minus-zero, minus}
 use Rattle.claims_entries.specs.Place.{Lies}
 use Rattle.claims_tree.specs.Place.{lies-head, lies-tail, lies-cons}
@@ -158,25 +158,22 @@ pub data SaysSigned (s : List ℕ) (at end : ℕ) : Signed → Type 0 where
   count : {g : Signed} {c : Count} (b : List ℕ) → Lies s at end b → SignedNumber b c → Counts c (at + length b) g → SaysSigned s at end g
   no-count : SaysSigned s at end NoNumber
 
-abbrev half : ℕ
-half = 2147483648
-
-pub signed-says : (s : List ℕ) (at end : ℕ) → end ≤ length s → SaysSigned s at end (signedAt 10 half s at end)
+pub signed-says : (s : List ℕ) (at end : ℕ) → end ≤ length s → SaysSigned s at end (signedAt 10 countHalf s at end)
 unfolding signedAt
 signed-says s at end inside =
-    go (at-most? end at) (same? (getD s at 0) 43) (same? (getD s at 0) 45) (unsigned-says (half - 1) s (at + 1) end inside) (unsigned-says half s (at + 1) end inside) (unsigned-says (half - 1) s at end inside)
+    go (at-most? end at) (same? (getD s at 0) 43) (same? (getD s at 0) 45) (unsigned-says (countHalf - 1) s (at + 1) end inside) (unsigned-says countHalf s (at + 1) end inside) (unsigned-says (countHalf - 1) s at end inside)
   where
-    of-plus : at < end → getD s at 0 ≡ 43 → {u : Unsigned} → SaysUnsigned (half - 1) s (at + 1) end u → SaysSigned s at end (plain u)
+    of-plus : at < end → getD s at 0 ≡ 43 → {u : Unsigned} → SaysUnsigned (countHalf - 1) s (at + 1) end u → SaysSigned s at end (plain u)
     of-plus h e bad = no-count
     of-plus h e (value {w = w} {e = i} b l f y k) =
         let j : at + length (43 ∷ b) ≡ at + 1 + length b = omega arith in
         count {g = Plain w i} {c = covers w} (43 ∷ b) (lies-cons s at end 43 h inside e l) (plus y (omega arith)) (rw (f, ← j) counts-plain)
 
-    of-none : {u : Unsigned} → SaysUnsigned (half - 1) s at end u → SaysSigned s at end (plain u)
+    of-none : {u : Unsigned} → SaysUnsigned (countHalf - 1) s at end u → SaysSigned s at end (plain u)
     of-none bad = no-count
     of-none (value {w = w} {e = i} b l f y k) = count {g = Plain w i} {c = covers w} b l (no-sign y (omega arith)) (rw f counts-plain)
 
-    minus-by : {w e : ℕ} {t : Bool} (b : List ℕ) → at < end → getD s at 0 ≡ 45 → Lies s (at + 1) end b → e ≡ at + 1 + length b → Digits 10 0 b w → w ≤ half → Same w 0 t → SaysSigned s at end (pick t (Plain 0 e) (Negative w e))
+    minus-by : {w e : ℕ} {t : Bool} (b : List ℕ) → at < end → getD s at 0 ≡ 45 → Lies s (at + 1) end b → e ≡ at + 1 + length b → Digits 10 0 b w → w ≤ countHalf → Same w 0 t → SaysSigned s at end (pick t (Plain 0 e) (Negative w e))
     minus-by {e = i} b h e l f y k (same z) =
         let j : at + length (45 ∷ b) ≡ at + 1 + length b = omega arith in
         count {g = Plain 0 i} {c = covers 0} (45 ∷ b) (lies-cons s at end 45 h inside e l) (minus-zero (subst (Digits 10 0 b) z y)) (rw (f, ← j) counts-plain)
@@ -185,35 +182,35 @@ signed-says s at end inside =
         let m : 0 < w = omega arith in
         count {g = Negative w i} {c = invalid} (45 ∷ b) (lies-cons s at end 45 h inside e l) (minus y m (omega arith)) (rw (f, ← j) counts-negative)
 
-    of-minus : at < end → getD s at 0 ≡ 45 → {u : Unsigned} → SaysUnsigned half s (at + 1) end u → SaysSigned s at end (negated u)
+    of-minus : at < end → getD s at 0 ≡ 45 → {u : Unsigned} → SaysUnsigned countHalf s (at + 1) end u → SaysSigned s at end (negated u)
     of-minus h e bad = no-count
     of-minus h e (value {w = w} b l f y k) = minus-by b h e l f y k (same? w 0)
 
-    go : {t u v : Bool} {a b c : Unsigned} → AtMost end at t → Same (getD s at 0) 43 u → Same (getD s at 0) 45 v → SaysUnsigned (half - 1) s (at + 1) end a → SaysUnsigned half s (at + 1) end b
-        → SaysUnsigned (half - 1) s at end c → SaysSigned s at end (pick t NoNumber (pick u (plain a) (pick v (negated b) (plain c))))
+    go : {t u v : Bool} {a b c : Unsigned} → AtMost end at t → Same (getD s at 0) 43 u → Same (getD s at 0) 45 v → SaysUnsigned (countHalf - 1) s (at + 1) end a → SaysUnsigned countHalf s (at + 1) end b
+        → SaysUnsigned (countHalf - 1) s at end c → SaysSigned s at end (pick t NoNumber (pick u (plain a) (pick v (negated b) (plain c))))
     go (at-most h) x y a b c = no-count
     go (above h) (same x) y a b c = of-plus h x a
     go (above h) (differs x) (same y) a b c = of-minus h y b
     go (above h) (differs x) (differs y) a b c = of-none c
 
 -- a count is read where a byte below "0" ends it
-pub signed-complete : {b : List ℕ} {v : Count} → SignedNumber b v → (c : ℕ) → c < 48 → (p : List ℕ) {s : List ℕ} {at end : ℕ} → Lies s at end (b ++ (c ∷ p)) → Counts v (at + length b) (signedAt 10 half s at end)
+pub signed-complete : {b : List ℕ} {v : Count} → SignedNumber b v → (c : ℕ) → c < 48 → (p : List ℕ) {s : List ℕ} {at end : ℕ} → Lies s at end (b ++ (c ∷ p)) → Counts v (at + length b) (signedAt 10 countHalf s at end)
 unfolding signedAt
 signed-complete (no-sign {b = b} {v = v} y h) c k p {s} {at} {end} l =
     let (x, r, e, d) = digits-first y in
     let first : getD s at 0 ≡ x = lies-head (subst (λ (z : List ℕ). Lies s at end (z ++ (c ∷ p))) e l) in
     let more : at < end = omega (arith, l .fits, length-append b (c ∷ p)) in
     let o : 48 ≤ x = d .least in
-    rw (lt-leb end at more, first, ne-eqb x 43 (λ q. omega arith), ne-eqb x 45 (λ q. omega arith), unsigned-complete y (half - 1) (omega arith) c k p l) counts-plain
+    rw (lt-leb end at more, first, ne-eqb x 43 (λ q. omega arith), ne-eqb x 45 (λ q. omega arith), unsigned-complete y (countHalf - 1) (omega arith) c k p l) counts-plain
 signed-complete (plus {b = b} {v = v} y h) c k p {s} {at} {end} l =
     let more : at < end = omega (arith, l .fits) in
     let j : at + 1 + length b ≡ at + length (43 ∷ b) = omega arith in
-    rw (lt-leb end at more, lies-head l, unsigned-complete y (half - 1) (omega arith) c k p (lies-tail l), j) counts-plain
+    rw (lt-leb end at more, lies-head l, unsigned-complete y (countHalf - 1) (omega arith) c k p (lies-tail l), j) counts-plain
 signed-complete (minus-zero {b = b} y) c k p {s} {at} {end} l =
     let more : at < end = omega (arith, l .fits) in
     let j : at + 1 + length b ≡ at + length (45 ∷ b) = omega arith in
-    rw (lt-leb end at more, lies-head l, unsigned-complete y half (omega arith) c k p (lies-tail l), j) counts-plain
+    rw (lt-leb end at more, lies-head l, unsigned-complete y countHalf (omega arith) c k p (lies-tail l), j) counts-plain
 signed-complete (minus {b = b} {v = v} y h m) c k p {s} {at} {end} l =
     let more : at < end = omega (arith, l .fits) in
     let j : at + 1 + length b ≡ at + length (45 ∷ b) = omega arith in
-    rw (lt-leb end at more, lies-head l, unsigned-complete y half m c k p (lies-tail l), ne-eqb v 0 (λ q. omega arith), j) counts-negative
+    rw (lt-leb end at more, lies-head l, unsigned-complete y countHalf m c k p (lies-tail l), ne-eqb v 0 (λ q. omega arith), j) counts-negative

@@ -1,27 +1,23 @@
 -- The head of a node: what `headAt` answers is spelled, and what is spelled is read. Assumes nothing.
-use Prim.Native.Nat.{ℕ, suc, _+_, _-_, _≤_, _<_}
+use Prim.Native.Nat.{ℕ, _+_, _-_, _≤_, _<_}
 use mathlib.Core.Path.{_≡_, refl, sym, ap, _∙_, subst}
 use mathlib.Core.List.{List, [], _∷_, _++_, append-assoc}
 use mathlib.Core.Bool.{Bool}
 use native.Mathlib.Omega.{arith}
 use lib.ListN.{length, getD, take, drop, length-append}
-use borrow.Author.Tests.{lt-ltb, le-ltb, le-leb, lt-leb, eq-eqb, ne-eqb}
+use borrow.Author.Tests.{le-ltb, lt-leb}
 use Rattle.laws.specs.Pick.{pick}
 use Rattle.laws.specs.Lists.{length-part}
 use Rattle.laws.specs.Read.{Begins}
 use Rattle.laws.specs.Tests.{Less, less, not-less, less?, AtMost, at-most, above, at-most?, Same, same, differs, same?}
-use Rattle.slices.specs.Bytes.{nulAt}
 use Rattle.slices.specs.declared.Ends.{Ends}
-use Rattle.slices.specs.declared.Ends.the-variants.{With, Never}
-use Rattle.wire.specs.Digits.{unsignedAt, signedAt}
 use Rattle.wire.specs.declared.Unsigned.{Unsigned}
 use Rattle.wire.specs.declared.Unsigned.the-variants.{Value, Bad}
 use Rattle.wire.specs.declared.Signed.{Signed}
-use Rattle.wire.specs.declared.Signed.the-variants.{Plain, Negative, NoNumber}
 use Rattle.node.specs.declared.Node.{Node as Fields}
 use Rattle.node.specs.declared.Head.{Head as HeadAnswer}
 use Rattle.node.specs.declared.Head.the-variants.{Is, Nothing}
-use Rattle.node.specs.Head.{countHalf, mostSubtrees, minusOne, spacedAt, endedAt, countedAt, namedAt, headAt}
+use Rattle.node.specs.Head.{mostSubtrees, minusOne, spacedAt, endedAt, countedAt, namedAt, headAt}
 use Rattle.grammar.specs.Number.{Count, covers, invalid, Unsigned as UnsignedNumber, Signed as SignedNumber}
 use Rattle.grammar.specs.Entry.{NoNul}
 use Rattle.grammar.specs.Tree.{Head, Id, of-tree, no-id, NodeHead, node-head}

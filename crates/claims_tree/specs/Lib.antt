@@ -7,3 +7,4 @@ pub mod Siblings
 pub mod Steps
 pub mod Walk
 pub mod Claims
+pub mod Example

@@ -4,17 +4,15 @@ use Prim.Native.Nat.{ℕ, suc, _+_, _-_}
 use mathlib.Core.List.{List, [], _++_}
 use lib.ListN.{length, drop, replicate}
 use Rattle.wire.specs.BigEndian.{bytesOf}
+use Rattle.node.specs.Head.{minusOne}
+use Rattle.node.specs.Store.{idRoom}
 use Rattle.grammar.specs.Number.{Count, covers, invalid}
 use Rattle.grammar.specs.Tree.{Tree, tree, Subtrees, childless, beside, nodes}
 
--- eight bytes with every bit set: -1 in two's complement, and no parent
-abbrev pub allOnes : ℕ
-allOnes = 18446744073709551615
-
--- a count in two's complement of 64 bits; any count below zero is stored as -1
+-- a count in two's complement of 64 bits; any count below zero is stored as -1, which is all ones
 abbrev pub countWord : Count → ℕ
 countWord (covers v) = v
-countWord invalid = allOnes
+countWord invalid = minusOne
 
 abbrev pub howMany : Subtrees → ℕ
 howMany childless = 0
@@ -22,7 +20,7 @@ howMany (beside t ts) = suc (howMany ts)
 
 -- an id, and zeros up to 32 bytes
 abbrev pub idBytes : List ℕ → List ℕ
-idBytes id = id ++ replicate (32 - length id) 0
+idBytes id = id ++ replicate (idRoom - length id) 0
 
 -- where the name starts and ends, the count, how many subtrees, the parent's number, and the id
 unfoldable pub nodeBytes : ℕ → List ℕ → Count → ℕ → ℕ → List ℕ → List ℕ
@@ -38,9 +36,9 @@ abbrev mutual
   subtreesBytes parent me childless = []
   subtreesBytes parent me (beside t ts) = nodesBytes parent me t ++ subtreesBytes parent (me + nodes t) ts
 
--- a whole tree
+-- a whole tree; its root has no parent, which is stored as all ones
 abbrev pub treeBytes : Tree → List ℕ
-treeBytes t = nodesBytes allOnes 0 t
+treeBytes t = nodesBytes minusOne 0 t
 
 -- a store with bytes in front, and the rest as it was
 abbrev pub filled : List ℕ → List ℕ → List ℕ

@@ -1,11 +1,11 @@
 -- One step of a walk, in the grammar alone: what is known of the subtrees below a head, or of the nodes behind one that is spelled, is known of the whole. Assumes nothing.
 use Prim.Native.Nat.{ℕ, zero, suc, _+_, _≤_, _<_}
 use mathlib.Core.Path.{_≡_, refl, sym, ap, _∙_, subst}
-use mathlib.Core.List.{List, [], _++_, append-assoc}
+use mathlib.Core.List.{List, _++_, append-assoc}
 use native.Mathlib.Omega.{arith}
 use lib.ListN.{length}
 use Rattle.laws.specs.Read.{Begins}
-use Rattle.grammar.specs.Tree.{Tree, tree, Subtrees, childless, beside, names, nodes, nodesOf, Head, NodeHead, Distinct, Node, node, Nodes, no-node, one-node}
+use Rattle.grammar.specs.Tree.{Tree, tree, Subtrees, beside, names, nodes, nodesOf, Head, NodeHead, Distinct, Node, node, Nodes, no-node, one-node}
 use Rattle.grammar.specs.Descent.{Comes, here, below, ComesAmong, in-this, past, moved, some-left}
 use Rattle.grammar.specs.Unique.{head-unique, node-unique}
 

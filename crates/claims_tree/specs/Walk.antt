@@ -2,9 +2,9 @@
 -- of the grammar stops for the same reason. By induction on the depth that is left, over the id's length. Assumes nothing.
 use Prim.Native.Nat.{ℕ, zero, suc, _+_, _-_, _*_, _/_, _^_, _≤_, _<_}
 use mathlib.Core.Path.{_≡_, refl, sym, ap, _∙_, subst}
-use mathlib.Core.List.{List, [], _∷_, _++_, append-assoc, append-nil}
-use mathlib.Core.Bool.{Bool, true, false}
-use native.Mathlib.Nat.{add-zero, add-assoc}
+use mathlib.Core.List.{List, [], _++_, append-assoc}
+use mathlib.Core.Bool.{Bool}
+use native.Mathlib.Nat.{add-zero}
 use native.Mathlib.Omega.{arith}
 use lib.Dec.{lit≤}
 use lib.ListN.{length, getD, take, drop, length-append}
@@ -13,24 +13,21 @@ use Rattle.laws.specs.Put.{put, put-none, put-put, paste-put}
 use Rattle.laws.specs.Tests.{AtMost, at-most, above, at-most?}
 use Rattle.node.specs.declared.Node.{Node as Fields}
 use Rattle.node.specs.declared.Head.{Head as HeadAnswer}
-use Rattle.node.specs.declared.Head.the-variants.{Is, Nothing}
+use Rattle.node.specs.declared.Head.the-variants.{Is}
 use Rattle.node.specs.Head.{headAt}
 use Rattle.node.specs.Store.{numbersOf, idOf, nodeOf, putAt, nameStartAt, nameEndAt, parentAt, nameAt}
-use Rattle.node.specs.Laws.{length-node, word-same, name-same, name-part}
-use Rattle.siblings.specs.Siblings.{siblingsDiffer}
+use Rattle.node.specs.Laws.{word-same, name-same, name-part}
 use Rattle.siblings.specs.InOrder.{Grows}
-use Rattle.tree.specs.declared.Fault.{Fault}
 use Rattle.tree.specs.declared.Fault.the-variants.{Unspelled, Deep, Full}
-use Rattle.tree.specs.declared.Step.{Step}
 use Rattle.tree.specs.declared.Step.the-variants.{Read, Stops}
 use Rattle.tree.specs.Tree.{Out, andThen, kids, settledAs, settled, body, nodeAt}
 use Rattle.tree.specs.Frame.{Kept, node-kept, kids-frame, spelled, full, put-paste, put-long, put-start, put-stop, put-parent}
 use Rattle.tree.specs.Inside.{node-grows}
-use Rattle.grammar.specs.Tree.{Tree, tree, Subtrees, childless, beside, nameOf, names, depth, deepest, nodes, nodesOf, Head, NodeHead, Distinct, Node, node, Nodes, no-node, one-node}
+use Rattle.grammar.specs.Tree.{Tree, tree, Subtrees, childless, beside, nameOf, names, depth, deepest, nodes, nodesOf, Head, NodeHead, Node, node, Nodes, no-node, one-node}
 use Rattle.grammar.specs.Descent.{Comes, ComesAmong}
 use Rattle.grammar.specs.DecideTree.{IsDistinct, is-distinct, repeats}
 use Rattle.claims_tree.specs.Place.{part}
-use Rattle.claims_tree.specs.Rendering.{countWord, howMany, idBytes, nodeBytes, nodesBytes, subtreesBytes}
+use Rattle.claims_tree.specs.Rendering.{howMany, nodeBytes, nodesBytes, subtreesBytes}
 use Rattle.claims_tree.specs.Head.{Told, HeadSaid, head-there, head-missing, head-said}
 use Rattle.claims_tree.specs.Siblings.{Children, no-more, child, differ?}
 use Rattle.claims_tree.specs.Steps.{Faulty, Crowded, TooDeep, no-head, no-room, too-deep, below-within, below-faulty, below-crowded, below-deep, past-within, past-faulty, past-crowded, past-deep, this-faulty, this-crowded, this-deep, none-left, repeated}
