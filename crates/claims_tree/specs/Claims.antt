@@ -1,14 +1,14 @@
 -- THE CLAIMS on a cache tree: what `readTree` answers on a part of the file, and what the node store holds after it, is said by the grammar alone. `SaysReadTree` has one rule for
 -- each answer; of the answer that is given its rule holds, and of no other. Over the id's length and the depth limit. Assumes that the part lies in the file, that an id fits
 -- its place in the store, and that 64 bits address each byte of file and store, each a premise.
-use Prim.Native.Nat.{ℕ, zero, suc, _+_, _-_, _≤_, _<_}
+use Prim.Native.Nat.{ℕ, suc, _+_, _-_, _≤_, _<_}
 use mathlib.Core.Path.{_≡_, refl, sym, ap, _∙_, subst}
 use mathlib.Core.List.{List, [], _++_, append-nil}
 use mathlib.Core.Bool.{Bool}
 use mathlib.Core.Logic.{_↔_}
 use native.Mathlib.Nat.{zero-add}
 use native.Mathlib.Omega.{arith}
-use lib.ListN.{length, take, drop, replicate, length-drop}
+use lib.ListN.{length, take, drop, length-drop}
 use lib.Seq.{drop-length, length-take-le}
 use borrow.Author.Tests.{le-ltb}
 use Rattle.laws.specs.Pick.{pick}

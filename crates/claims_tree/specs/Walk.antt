@@ -123,7 +123,7 @@ module _ (n : ℕ) (fits : n ≤ 32) (s : List ℕ) (end : ℕ) (inside : end �
 -- ---- a node
 
 -- how many subtrees a head says is how many there are
-how-many : {n p l : ℕ} {b : List ℕ} {ts : Subtrees} → Nodes n p l b ts → l ≡ howMany ts
+pub how-many : {n p l : ℕ} {b : List ℕ} {ts : Subtrees} → Nodes n p l b ts → l ≡ howMany ts
 how-many no-node = refl
 how-many (one-node u us i) = ap suc (how-many us)
 
