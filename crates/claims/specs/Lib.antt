@@ -1,0 +1,3 @@
+-- The modules of claims.
+pub mod Premises
+pub mod Header
