@@ -2,17 +2,19 @@
 use mathlib.Core.Path.{_≡_, refl, sym, ap, _∙_}
 use mathlib.Core.Bool.{Bool, true, false}
 use mathlib.Core.List.{List, [], _∷_}
+use mathlib.Core.Logic.{⊎-elim}
 use Prim.Native.Nat.{ℕ, zero, suc, _+_, _-_, _/_, _≤_, _<_}
-use native.Mathlib.Nat.{sub-zero, add-assoc}
+use native.Mathlib.Nat.{add-zero, sub-zero}
 use native.Mathlib.Omega.{arith}
 use lib.ListN.{length, getD, drop, length-drop, drop-of-length-le}
 use lib.Dec.{ltb, eqb}
 use lib.Seq.{getD-drop}
 use borrow.Author.Tests.{lt-ltb, le-ltb, eq-eqb, ne-eqb}
 use Rattle.laws.specs.Pick.{pick}
-use Rattle.laws.specs.Tests.{Same, same, differs, same?}
+use Rattle.laws.specs.Tests.{Same, same, differs, same?, lt-or-ge}
 use Rattle.laws.specs.Lists.{drop-next}
 use Rattle.laws.specs.Order.{Comparison, below, equal, beyond, compared, compared-lt, compared-gt, compared-eq}
+use Rattle.wire.specs.BigEndian.{beAt}
 use Rattle.entry.specs.Record.{recordsIn, stageAt, liesInside, pathAt}
 use Rattle.access.specs.Order.{orderOf, stageOrder, thenBy, placed, agreeing}
 use Rattle.access.specs.Verify.{isLess, followsAt, verifyFrom, verifyAt}
@@ -47,6 +49,37 @@ module _ (a b : List ℕ) (k r : ℕ) (inv : k + agreeing (drop k a) (drop k b) 
       pub agree-more : getD a k 0 ≡ getD b k 0 → k + 1 + agreeing (drop (k + 1) a) (drop (k + 1) b) ≡ r
       unfolding agreeing
       agree-more e = omega (arith, rw (drop-next a k h, drop-next b k l, eq-eqb (getD a k 0) (getD b k 0) e) at inv)
+
+-- ---- the same, eight bytes at a time
+
+-- numbers of w bytes that are equal have equal bytes
+bytes-same : (w : ℕ) (a b : List ℕ) (i : ℕ) → ((j : ℕ) → getD a j 0 < 256) → ((j : ℕ) → getD b j 0 < 256) → beAt w a i ≡ beAt w b i → (m : ℕ) → m < w → getD a (i + m) 0 ≡ getD b (i + m) 0
+unfolding beAt
+bytes-same zero a b i ha hb e m h = absurd (omega arith)
+bytes-same (suc w) a b i ha hb e m h =
+    let high : beAt w a i ≡ beAt w b i = omega (arith, ha (i + w), hb (i + w)) in
+    let low : getD a (i + w) 0 ≡ getD b (i + w) 0 = omega (arith, ha (i + w), hb (i + w)) in
+    ⊎-elim (λ l. bytes-same w a b i ha hb high m l) (λ l. let q : m ≡ w = omega arith in rw q low) (lt-or-ge m w)
+
+-- w bytes that are equal are passed
+agree-run : (w : ℕ) (a b : List ℕ) (k : ℕ) → k + w ≤ length a → k + w ≤ length b → ((m : ℕ) → m < w → getD a (k + m) 0 ≡ getD b (k + m) 0)
+    → w + agreeing (drop (k + w) a) (drop (k + w) b) ≡ agreeing (drop k a) (drop k b)
+unfolding agreeing
+agree-run zero a b k ha hb e = rw (add-zero k) (omega arith)
+agree-run (suc w) a b k ha hb e =
+    let q : k + suc w ≡ k + 1 + w = omega arith in
+    let here : getD a k 0 ≡ getD b k 0 = rw (add-zero k) at (e 0 (omega arith)) in
+    let ih = agree-run w a b (k + 1) (omega arith) (omega arith) (λ m l. let p : k + 1 + m ≡ k + (m + 1) = omega arith in rw p (e (m + 1) (omega arith))) in
+    rw (q, drop-next a k (omega arith), drop-next b k (omega arith), eq-eqb (getD a k 0) (getD b k 0) here) (omega (arith, ih))
+
+pub agree-start : (a b : List ℕ) → 0 + agreeing (drop 0 a) (drop 0 b) ≡ agreeing a b
+agree-start a b = omega arith
+
+pub agree-eight : (a b : List ℕ) (k r x y n : ℕ) → k + agreeing (drop k a) (drop k b) ≡ r → x ≡ beAt 8 a k → y ≡ beAt 8 b k → x ≡ y → 8 ≤ n - k → n ≤ length a → n ≤ length b → ((j : ℕ) → getD a j 0 < 256) → ((j : ℕ) → getD b j 0 < 256)
+    → k + 8 + agreeing (drop (k + 8) a) (drop (k + 8) b) ≡ r
+agree-eight a b k r x y n inv ex ey e h la lb ha hb =
+    let run : 8 + agreeing (drop (k + 8) a) (drop (k + 8) b) ≡ agreeing (drop k a) (drop k b) = agree-run 8 a b k (omega arith) (omega arith) (bytes-same 8 a b k ha hb (sym ex ∙ e ∙ ey)) in
+    omega arith
 
 -- ---- where two paths part
 
@@ -237,7 +270,7 @@ module _ (rs ps key : List ℕ) (stage : ℕ) where
   unfolding lookupAt
   lookup-near r e h = e ∙ sym (rw (le-ltb 3 stage (omega arith)))
 
-pub ruleset orders = (agree-first, agree-second, agree-part, agree-more, compare-equal, compare-prefix, compare-longer, compare-less, compare-greater, stage-below, stage-beyond, stage-same, then-less, then-greater, then-second)
+pub ruleset orders = (agree-start, agree-first, agree-second, agree-part, agree-more, compare-equal, compare-prefix, compare-longer, compare-less, compare-greater, stage-below, stage-beyond, stage-same, then-less, then-greater, then-second)
 
 pub ruleset checks = (follows-first, follows-less, follows-equal, follows-greater, verify-start, verify-done, verify-outside, verify-not-after, verify-next)
 

@@ -5,7 +5,7 @@ use Prim.Native.Nat.{ℕ, suc, _+_, _-_, _*_, _≤_, _<_}
 use mathlib.Core.Path.{_≡_, refl, sym, ap, _∙_, subst}
 use mathlib.Core.List.{List, [], _∷_, _++_, append-assoc, append-nil, append-cancel-left}
 use mathlib.Core.Bool.{Bool, true, false}
-use mathlib.Core.Logic.{_↔_, _⊎_, ⊎-elim}
+use mathlib.Core.Logic.{_↔_, ⊎-elim}
 use native.Mathlib.Omega.{arith}
 use native.Mathlib.Nat.{zero-add}
 use lib.Dec.{lit≤}
@@ -25,7 +25,7 @@ use Rattle.grammar.specs.Entry.{Meaning, start, Entry, Entries}
 use Rattle.claims_entries.specs.Place.{Lies, lies-from, lies-to}
 use Rattle.claims_entries.specs.Measure.{refused-exactly-if-not-spelled}
 use Rattle.claims_entries.specs.Rendering.{recordsBytes, pathsBytes, sparseBy, Bytes}
-use Rattle.claims_entries.specs.Said.{entriesSpace, nothingBefore, readingOf, filled, after, holding, doneBy, Fits, Lacks, SaysRead, says-done, says-not-spelled, says-no-room, IsDone, AllSpelled, StopsAt, RoomFor, LacksRoomAt}
+use Rattle.claims_entries.specs.Said.{entriesSpace, SpaceIn, readingOf, filled, after, holding, doneBy, Fits, SaysRead, says-done, says-not-spelled, says-no-room, IsDone, AllSpelled, StopsAt, RoomFor, LacksRoomAt}
 use Rattle.claims_entries.specs.Reach.{Reach, whole, part, full, reach}
 use Rattle.claims_entries.specs.Run.{Stands, none-yet, knows, firstAfter, run-steps, run-full, run-refused}
 
@@ -43,7 +43,13 @@ reading-runs : (n : ℕ) (file : List ℕ) (version from end count : ℕ) (rs ps
 unfolding readEntries least
 reading-runs n file version from end count rs ps = rw (le-ltb (length ps) 0 (omega arith))
 
-module _ (file : List ℕ) (bytes : Bytes file) (version from end count : ℕ) (inside : end ≤ length file) (ahead : from ≤ end) (rs ps : List ℕ) where
+module _ (file : List ℕ) (bytes : Bytes file) (version from end count : ℕ) (lies-in : SpaceIn file from end) (rs ps : List ℕ) where
+  inside : end ≤ length file
+  inside = lies-in .inside
+
+  ahead : from ≤ end
+  ahead = lies-in .ahead
+
   abbrev space : List ℕ
   space = entriesSpace file from end
 
@@ -143,13 +149,20 @@ module _ (file : List ℕ) (bytes : Bytes file) (version from end count : ℕ) (
       → reading ≡ holding idSize rs ps ms (doneBy from (x .0) ms)
   stores-are-the-meaning room ms rest (b, i, x) = no-second-answer (says-done rest i x (room count ms rest (omega arith) (b, i, x)))
 
-  pub done-exactly-if-spelled : RoomFor idSize version space count rs ps → IsDone (reading .answer) ↔ AllSpelled idSize version space count
-  done-exactly-if-spelled room = ((λ (next, used, sparse, q). to answer-says q), (λ (ms, rest, x). (_, _, _, ap (λ (o : Outcome). o .answer) (stores-are-the-meaning room ms rest x))))
+  -- and Done says all of it, with no premise of room
+  pub done-is-the-meaning : (next : FileAt) (used : PathAt) (sparse : Bool) → reading .answer ≡ Done next used sparse
+      → (ms : List Meaning) × (rest : List ℕ) × (x : Begins (Entries idSize version start count) space ms rest) × (reading ≡ holding idSize rs ps ms (doneBy from (x .0) ms))
+  done-is-the-meaning next used sparse q = to answer-says refl q
     where
-      to : {o : Outcome} {next : FileAt} {used : PathAt} {sparse : Bool} → SaysRead idSize version from space count rs ps o → o .answer ≡ Done next used sparse → AllSpelled idSize version space count
-      to (says-done {b = b} {ms = ms} rest i x f) q = (ms, rest, (b, i, x))
-      to (says-not-spelled rest h i x f none) q = let z : _≡_ {A = ℕ} 0 1 = cc in absurd (omega arith)
-      to (says-no-room rest r h i x f y lacks) q = let z : _≡_ {A = ℕ} 0 1 = cc in absurd (omega arith)
+      to : {o : Outcome} → SaysRead idSize version from space count rs ps o → reading ≡ o → o .answer ≡ Done next used sparse
+          → (ms : List Meaning) × (rest : List ℕ) × (x : Begins (Entries idSize version start count) space ms rest) × (reading ≡ holding idSize rs ps ms (doneBy from (x .0) ms))
+      to (says-done {b = b} {ms = ms} rest i x f) e q = (ms, rest, (b, i, x), e)
+      to (says-not-spelled rest h i x f none) e q = let z : _≡_ {A = ℕ} 0 1 = cc in absurd (omega arith)
+      to (says-no-room rest r h i x f y lacks) e q = let z : _≡_ {A = ℕ} 0 1 = cc in absurd (omega arith)
+
+  pub done-exactly-if-spelled : RoomFor idSize version space count rs ps → IsDone (reading .answer) ↔ AllSpelled idSize version space count
+  done-exactly-if-spelled room =
+      ((λ (next, used, sparse, q). let (ms, rest, x, e) = done-is-the-meaning next used sparse q in (ms, rest, x)), (λ (ms, rest, x). (_, _, _, ap (λ (o : Outcome). o .answer) (stores-are-the-meaning room ms rest x))))
 
   -- refusal 5
   pub not-spelled-exactly : RoomFor idSize version space count rs ps → (k : ℕ) → (reading .answer ≡ NotSpelled k) ↔ StopsAt idSize version space count k
@@ -197,13 +210,13 @@ module _ (file : List ℕ) (bytes : Bytes file) (version from end count : ℕ) (
           ⊎-elim (λ (a : length rs < (j + 1) * 96). omega (arith, f .records)) (λ (a : length ps < length (pathsBytes ms) + length (m .path)). omega (arith, f .paths, paths-snoc ms m)) lacks
 
 -- longer stores, same word: an answer that is no room refusal is given again, over the same records and paths
-module _ (file : List ℕ) (bytes : Bytes file) (version from end count : ℕ) (inside : end ≤ length file) (ahead : from ≤ end) (rs ps rs₂ ps₂ : List ℕ) (wider : length rs ≤ length rs₂) (longer : length ps ≤ length ps₂) where
+module _ (file : List ℕ) (bytes : Bytes file) (version from end count : ℕ) (lies-in : SpaceIn file from end) (rs ps rs₂ ps₂ : List ℕ) (wider : length rs ≤ length rs₂) (longer : length ps ≤ length ps₂) where
   pub more-room-same-word : ((k : ℕ) → ¬ (readingOf idSize file version from end count rs ps .answer ≡ NoRoom k))
       → (a : Answer) × (ms : List Meaning) × (readingOf idSize file version from end count rs ps ≡ holding idSize rs ps ms a) × (readingOf idSize file version from end count rs₂ ps₂ ≡ holding idSize rs₂ ps₂ ms a)
-  more-room-same-word no-refusal = go (answer-says file bytes version from end count inside ahead rs ps) refl
+  more-room-same-word no-refusal = go (answer-says file bytes version from end count lies-in rs ps) refl
     where
       again : {o : Outcome} → SaysRead idSize version from (entriesSpace file from end) count rs₂ ps₂ o → readingOf idSize file version from end count rs₂ ps₂ ≡ o
-      again = no-second-answer file bytes version from end count inside ahead rs₂ ps₂
+      again = no-second-answer file bytes version from end count lies-in rs₂ ps₂
 
       fits : {k : ℕ} {ms : List Meaning} → Fits rs ps k ms → Fits rs₂ ps₂ k ms
       fits f = record { records = omega (arith, f .records); paths = omega (arith, f .paths) }

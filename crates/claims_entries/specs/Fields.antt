@@ -1,19 +1,18 @@
 -- What the accessors show of a rendering: field for field the meaning that was rendered, its path in the path store, whatever stands behind it. A spelling in bytes means
 -- numbers that fit their places in a record. Assumes nothing.
-use Prim.Native.Nat.{ℕ, zero, suc, _+_, _-_, _*_, _/_, _%_, _^_, _≤_, _<_}
+use Prim.Native.Nat.{ℕ, zero, suc, _+_, _-_, _*_, _/_, _^_, _≤_, _<_}
 use mathlib.Core.Path.{_≡_, refl, sym, ap, _∙_, subst}
-use mathlib.Core.List.{List, [], _∷_, _++_, append-assoc, append-nil}
+use mathlib.Core.List.{List, [], _∷_, _++_, append-assoc}
 use mathlib.Core.Bool.{true}
-use mathlib.Core.Option.{some, none as nothing}
+use mathlib.Core.Logic.{⊎-elim}
+use mathlib.Core.Option.{some}
 use native.Mathlib.Omega.{arith}
-use native.Mathlib.Nat.{add-assoc, add-zero, zero-add}
 use lib.Dec.{lit≤, lit<}
 use lib.ListN.{length, getD, take, drop, replicate, getElem?, length-append, length-drop, List·getD-append, List·getD-eq-default}
 use lib.Seq.{take-at, drop-at, drop-drop, take-all, take-append-le, drop-append-le}
 use borrow.Author.Tests.{le-leb}
 use Rattle.laws.specs.Lists.{getD-right}
 use Rattle.laws.specs.Tests.{lt-or-ge}
-use mathlib.Core.Logic.{_⊎_, ⊎-elim}
 use Rattle.laws.specs.Times.{done, more}
 use Rattle.wire.specs.BigEndian.{beAt, bytesOf, length-bytes, be-left, be-right, be-bytes, be-small}
 use Rattle.entry.specs.Flags.{stageRaw}
@@ -23,7 +22,7 @@ use Rattle.entry.specs.Stat.{statAt}
 use Rattle.entry.specs.Laws.{length-zeros, to-flags, to-start, to-end, field-is, id-is, inside-is, path-is}
 use Rattle.entry.specs.declared.stat.Stat.{Stat as ShownStat}
 use Rattle.grammar.specs.Number.{bigEndian, BigEndian, big-endian}
-use Rattle.grammar.specs.Entry.{Stat, Meaning, Words, no-words, word, keptMode, Fields, fields, Flags, plain, extended, Before, Entry, entry, Entries}
+use Rattle.grammar.specs.Entry.{Stat, Meaning, meaning, Words, no-words, word, keptMode, Fields, fields, Flags, plain, extended, Before, Entry, entry, Entries}
 use Rattle.claims_entries.specs.Parts.{be-is}
 use Rattle.claims_entries.specs.Rendering.{wordBytes, numbersOf, recordBytes, recordsBytes, pathsBytes, Bytes, length-words, length-record}
 use Rattle.claims_entries.specs.Said.{filled}
@@ -337,3 +336,25 @@ pub meaning-at : (ms : List Meaning) (i : ℕ) → i < length ms → (m : Meanin
 meaning-at [] i h = absurd (omega arith)
 meaning-at (m ∷ ms) zero h = (m, refl)
 meaning-at (m ∷ ms) (suc i) h = meaning-at ms i (omega arith)
+
+-- ---- a record shows one meaning only, so that a rendering loses nothing
+
+stat-shown-once : (t u : Stat) → statShown t ≡ statShown u → t .mode ≡ u .mode → t ≡ u
+stat-shown-once t u e m =
+    λ j. record {
+      ctime = e j .ctime .secs;
+      ctime-nanos = e j .ctime .nsecs;
+      mtime = e j .mtime .secs;
+      mtime-nanos = e j .mtime .nsecs;
+      dev = e j .dev;
+      ino = e j .ino;
+      mode = m j;
+      uid = e j .uid;
+      gid = e j .gid;
+      size = e j .size;
+    }
+
+pub shown-once : {n : ℕ} {rs ps : List ℕ} {i : ℕ} {m o : Meaning} → Shows n rs ps i m → Shows n rs ps i o → m ≡ o
+shown-once {m = m} {o = o} a b =
+    let s : m .stat ≡ o .stat = stat-shown-once (m .stat) (o .stat) (sym (a .stat) ∙ b .stat) (sym (a .mode) ∙ b .mode) in
+    λ j. meaning (s j) ((sym (a .id) ∙ b .id) j) ((sym (a .flags) ∙ b .flags) j) ((sym (a .path) ∙ b .path) j)

@@ -1,6 +1,6 @@
 -- The parts of an entry, each in two lemmas: what the reader's definition answers is spelled (`says`), and what is spelled is read (`complete`). Assumes nothing.
 use Prim.Native.Nat.{ℕ, zero, suc, _+_, _-_, _*_, _/_, _%_, _^_, _≤_, _<_}
-use mathlib.Core.Path.{_≡_, refl, sym, ap, _∙_, subst}
+use mathlib.Core.Path.{_≡_, refl, sym, ap, _∙_}
 use mathlib.Core.List.{List, [], _∷_, _++_, append-assoc}
 use mathlib.Core.Bool.{Bool}
 use native.Mathlib.Omega.{arith}
@@ -28,7 +28,7 @@ use Rattle.grammar.specs.Number.{bigEndian, BigEndian, big-endian, Groups, Vari
 use Rattle.grammar.specs.Number.Groups.{last, next}
 use Rattle.grammar.specs.DecideNumber.{big-endian-snoc}
 use Rattle.grammar.specs.DecideEntry.{statOf}
-use Rattle.grammar.specs.Entry.{Stat, Meaning, meaning, Words, no-words, word, Fields, fields, keptBits, lengthField, OnlyMarks, Flags, plain, extended, NoNul}
+use Rattle.grammar.specs.Entry.{Stat, Meaning, meaning, Words, no-words, word, Fields, fields, OnlyMarks, Flags, plain, extended, NoNul}
 use Rattle.grammar.specs.Entry.NoNul.{empty, byte}
 use Rattle.claims_entries.specs.Place.{Lies, lies-take, lies-at, lies-left, lies-right, lies-then, lies-part}
 

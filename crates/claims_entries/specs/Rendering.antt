@@ -3,19 +3,21 @@
 use Prim.Native.Nat.{ℕ, zero, suc, _+_, _*_, _/_, _%_, _≤_, _<_}
 use mathlib.Core.Path.{_≡_, refl, sym, ap, _∙_}
 use mathlib.Core.List.{List, [], _∷_, _++_, append-assoc}
-use mathlib.Core.Bool.{Bool, true}
+use mathlib.Core.Bool.{Bool, true, false}
 use native.Mathlib.Omega.{arith}
 use native.Mathlib.Nat.{add-assoc}
 use lib.Dec.{eqb}
 use lib.ListN.{length, getD, take, drop, length-append, length-drop}
 use lib.Seq.{take-add, take-suc, drop-drop, getD-drop}
 use Rattle.laws.specs.Pick.{pick}
+use Rattle.laws.specs.Tests.{Same, same, differs, same?}
 use Rattle.wire.specs.BigEndian.{beAt, bytesOf, length-bytes}
 use Rattle.entry.specs.Mode.{directory, keepMode}
 use Rattle.entry.specs.Record.{frontOf, restOf, recordOf}
 use Rattle.entry.specs.Laws.{dir-inside, length-rest}
 use Rattle.decode.specs.Entries.{marked}
-use Rattle.grammar.specs.Entry.{Stat, Meaning, keptMode, Fields, fields, Entry, entry}
+use Rattle.grammar.specs.Entry.{Stat, Meaning, keptMode, fields, Entry, entry}
+use Rattle.grammar.specs.File.{directoryMode, Some, this, other, Tells, it-is, it-is-not}
 use Rattle.claims_entries.specs.Parts.{wordsAt, statAt, meaningAt}
 
 -- 32-bit numbers, big-endian
@@ -62,8 +64,7 @@ length-words (v ∷ vs) = length-append (bytesOf 4 v) (wordBytes vs) ∙ omega (
 
 pub length-record : (n from : ℕ) (m : Meaning) → n ≤ 32 → length (m .id) ≡ n → length (recordBytes n from m) ≡ 96
 unfolding recordBytes
-length-record n from m h e =
-    simp length-append (omega (arith, length-words (numbersOf (m .stat)), length-rest n (m .flags) from (from + length (m .path)) h))
+length-record n from m h e = simp (length-append, length-words, length-rest) (omega arith)
 
 pub spelled-id : {n version : ℕ} {before : _} {b : List ℕ} {m : Meaning} → Entry n version before b m → length (m .id) ≡ n
 spelled-id (entry (fields x e) y z) = e
@@ -130,3 +131,36 @@ unfolding marked statAt wordsAt keepMode
 marked-is n s at flags p sparse h =
     let k : at + 24 ≡ at + 4 + 4 + 4 + 4 + 4 + 4 = omega arith in
     ap (λ (t : Bool). pick t true sparse) (dir-inside s at h) ∙ ap (λ (j : ℕ). pick (eqb (keptMode (beAt 4 s j)) directory) true sparse) k
+
+-- ---- the mark says whether one of the entries is a directory
+
+mark-stays : (ms : List Meaning) → sparseBy true ms ≡ true
+unfolding sparseBy
+mark-stays [] = refl
+mark-stays (m ∷ ms) = by (eqb (m .stat .mode) directory) (mark-stays ms)
+  where
+    by : (t : Bool) → sparseBy true ms ≡ true → sparseBy (pick t true true) ms ≡ true
+    by true e = e
+    by false e = e
+
+some-length : {P : Meaning → Type 0} {ms : List Meaning} → Some P ms → 0 < length ms
+some-length (this x) = omega arith
+some-length (other x) = omega arith
+
+pub sparse-tells : (ms : List Meaning) → Tells (Some (λ (m : Meaning). m .stat .mode ≡ directoryMode) ms) (sparseBy false ms)
+unfolding sparseBy
+sparse-tells [] = it-is-not (λ x. omega (arith, some-length x))
+sparse-tells (m ∷ ms) = go (same? (m .stat .mode) directory) (sparse-tells ms)
+  where
+    neither : {P : Meaning → Type 0} → (P m → ⊥) → (Some P ms → ⊥) → Some P (m ∷ ms) → ⊥
+    neither d k (this e) = d e
+    neither d k (other x) = k x
+
+    behind : {u : Bool} → (m .stat .mode ≡ directory → ⊥) → Tells (Some (λ (m : Meaning). m .stat .mode ≡ directoryMode) ms) u → Tells (Some (λ (m : Meaning). m .stat .mode ≡ directoryMode) (m ∷ ms)) u
+    behind d (it-is x) = it-is (other x)
+    behind d (it-is-not k) = it-is-not (neither d k)
+
+    go : {t : Bool} → Same (m .stat .mode) directory t → Tells (Some (λ (m : Meaning). m .stat .mode ≡ directoryMode) ms) (sparseBy false ms)
+        → Tells (Some (λ (m : Meaning). m .stat .mode ≡ directoryMode) (m ∷ ms)) (sparseBy (pick t true false) ms)
+    go (same e) u = rw (mark-stays ms) (it-is (this e))
+    go (differs d) u = behind d u

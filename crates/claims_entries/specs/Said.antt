@@ -23,6 +23,11 @@ use Rattle.claims_entries.specs.Rendering.{recordsBytes, pathsBytes, spa
 abbrev pub entriesSpace : List ℕ → ℕ → ℕ → List ℕ
 entriesSpace file from end = drop from (take end file)
 
+-- it lies in the file
+pub record SpaceIn (file : List ℕ) (from end : ℕ) : Type 0 where
+  pub ahead : from ≤ end
+  pub inside : end ≤ length file
+
 -- no path comes before, and nothing of the path store is in use
 abbrev pub nothingBefore : Standing
 nothingBefore = record { used = pathAt 0; first = true; length = 0 }

@@ -1,13 +1,13 @@
 -- What a reading of entries leaves, through the accessors: each record shows its entry's meaning, and its path lies in the path store, so that refusal 12 never arises on it.
 -- Assumes that the file is bytes, that the entries' space lies in it, and that the path store can be addressed by 64 bits, each a premise with a name.
 use Prim.Native.Nat.{ℕ, _+_, _^_, _≤_, _<_}
-use mathlib.Core.Path.{_≡_, refl, sym, ap, _∙_, subst}
-use mathlib.Core.List.{List, _++_}
+use mathlib.Core.Path.{_≡_, sym, subst}
+use mathlib.Core.List.{List}
 use mathlib.Core.Bool.{Bool, true}
 use mathlib.Core.Option.{some}
 use native.Mathlib.Omega.{arith}
 use lib.Dec.{lit≤}
-use lib.ListN.{length, getD, take, drop, getElem?, take-append-drop}
+use lib.ListN.{length, take, drop, getElem?, take-append-drop}
 use lib.Seq.{getD-drop}
 use Rattle.laws.specs.Read.{Begins}
 use Rattle.wire.specs.declared.FileAt.{FileAt}
@@ -18,7 +18,7 @@ use Rattle.decode.specs.Entries.{Outcome}
 use Rattle.decode.specs.declared.entries.Answer.the-variants.{Done}
 use Rattle.grammar.specs.Entry.{Meaning, start, Entries}
 use Rattle.claims_entries.specs.Rendering.{recordsBytes, pathsBytes, Bytes}
-use Rattle.claims_entries.specs.Said.{entriesSpace, readingOf, filled, Fits, SaysRead, says-done, says-not-spelled, says-no-room, IsDone}
+use Rattle.claims_entries.specs.Said.{entriesSpace, SpaceIn, readingOf, filled, Fits, SaysRead, says-done, says-not-spelled, says-no-room, IsDone}
 use Rattle.claims_entries.specs.Claims.{answer-says}
 use Rattle.claims_entries.specs.Fields.{Shows, bytes-left, spelled-each-fits, spelled-length, rendered-fields, meaning-at}
 
@@ -35,7 +35,7 @@ bytes-space file from end h i =
 abbrev pub EachShown : List ℕ → List ℕ → List Meaning → Type 0
 EachShown rs ps ms = (i : ℕ) (m : Meaning) → getElem? ms i ≡ some m → Shows idSize rs ps i m
 
-module _ (file : List ℕ) (bytes : Bytes file) (version from end count : ℕ) (inside : end ≤ length file) (ahead : from ≤ end) (rs ps : List ℕ) (small : Addressable ps) where
+module _ (file : List ℕ) (bytes : Bytes file) (version from end count : ℕ) (lies-in : SpaceIn file from end) (rs ps : List ℕ) (small : Addressable ps) where
   -- k entries that are spelled and have room, whatever the answer
   pub stored-entries-show : (k : ℕ) (ms : List Meaning) (rest : List ℕ) → Begins (Entries idSize version start k) (entriesSpace file from end) ms rest → Fits rs ps k ms
       → EachShown (filled rs (recordsBytes idSize 0 ms)) (filled ps (pathsBytes ms)) ms
@@ -46,7 +46,7 @@ module _ (file : List ℕ) (bytes : Bytes file) (version from end count : ℕ) (
 
   -- what is read is shown
   pub done-shows : IsDone (reading .answer) → (ms : List Meaning) × (rest : List ℕ) × Begins (Entries idSize version start count) (entriesSpace file from end) ms rest × EachShown (reading .records) (reading .paths) ms
-  done-shows (next, used, sparse, q) = go (answer-says file bytes version from end count inside ahead rs ps) q
+  done-shows (next, used, sparse, q) = go (answer-says file bytes version from end count lies-in rs ps) q
     where
       go : {o : Outcome} {next : FileAt} {used : PathAt} {sparse : Bool} → SaysRead idSize version from (entriesSpace file from end) count rs ps o → o .answer ≡ Done next used sparse
           → (ms : List Meaning) × (rest : List ℕ) × Begins (Entries idSize version start count) (entriesSpace file from end) ms rest × EachShown (o .records) (o .paths) ms

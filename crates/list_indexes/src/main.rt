@@ -1,15 +1,20 @@
 // Lists each of its files, which git made; its stdout is what git printed of them (tests/make-indexes made both).
 use libc::STDOUT_FILENO;
 
+// Writes a text that was put at the start of out.
+fn write(out: &[u8], size: usize) {
+    if size <= out.len() {
+        io::write_all(STDOUT_FILENO, &out[..size]);
+    }
+}
+
 // Prints the listing of an open file, as crate `list` does of its input.
 fn list(fd: i32) {
     let mut file = [0u8; 65537];
     let n = io::read_full(fd, &mut file);
     let mut out = [0u8; 91648];
     let size = listing::list_file(&file[..n], &mut out);
-    if size <= out.len() {
-        io::write_all(STDOUT_FILENO, &out[..size]);
-    }
+    write(&out, size);
 }
 
 // Prints the name of a file and its listing.

@@ -13,12 +13,31 @@ use Rattle.node.specs.declared.Node.{Node}
 abbrev pub nodeSize : ℕ
 nodeSize = 72
 
+-- where each part of a node stands in its bytes
+abbrev pub startPlace : ℕ
+startPlace = 0
+
+abbrev pub endPlace : ℕ
+endPlace = 8
+
+abbrev pub countPlace : ℕ
+countPlace = 16
+
+abbrev pub subtreesPlace : ℕ
+subtreesPlace = 24
+
+abbrev pub parentPlace : ℕ
+parentPlace = 32
+
+abbrev pub idPlace : ℕ
+idPlace = 40
+
 abbrev pub idRoom : ℕ
 idRoom = 32
 
 -- how many nodes a store has room for
 abbrev pub nodesIn : List ℕ → ℕ
-nodesIn ns = length ns / 72
+nodesIn ns = length ns / nodeSize
 
 -- ---- a node's bytes
 
@@ -27,7 +46,7 @@ numbersOf n parent = bytesOf 8 (n .start) ++ bytesOf 8 (n .stop) ++ bytesOf 8 (n
 
 -- the id's bytes in the file, and zeros up to 32
 unfoldable pub idOf : List ℕ → Node → List ℕ
-idOf s n = take (n .next - n .id) (drop (n .id) s) ++ replicate (32 - (n .next - n .id)) 0
+idOf s n = take (n .next - n .id) (drop (n .id) s) ++ replicate (idRoom - (n .next - n .id)) 0
 
 unfoldable pub nodeOf : List ℕ → Node → ℕ → List ℕ
 nodeOf s n parent = numbersOf n parent ++ idOf s n
@@ -35,35 +54,35 @@ nodeOf s n parent = numbersOf n parent ++ idOf s n
 -- the store with node i written: as it was where it has no node i, or where the id does not lie in the file or is too long
 unfoldable pub putAt : List ℕ → Node → ℕ → List ℕ → ℕ → List ℕ
 putAt s n parent ns i =
-    pick (leb (length ns / 72) i) ns
+    pick (leb (nodesIn ns) i) ns
     (pick (ltb (n .next) (n .id)) ns
-    (pick (ltb 32 (n .next - n .id)) ns
+    (pick (ltb idRoom (n .next - n .id)) ns
     (pick (ltb (length s) (n .next)) ns
-    (paste ns (i * 72) (nodeOf s n parent) 72))))
+    (paste ns (i * nodeSize) (nodeOf s n parent) nodeSize))))
 
 -- ---- what the store says of node i
 
 -- the number at k; 0 past the last whole node
 unfoldable pub wordAt : ℕ → List ℕ → ℕ → ℕ
-wordAt k ns i = pick (ltb i (length ns / 72)) (beAt 8 ns (i * 72 + k)) 0
+wordAt k ns i = pick (ltb i (nodesIn ns)) (beAt 8 ns (i * nodeSize + k)) 0
 
 abbrev pub nameStartAt : List ℕ → ℕ → ℕ
-nameStartAt = wordAt 0
+nameStartAt = wordAt startPlace
 
 abbrev pub nameEndAt : List ℕ → ℕ → ℕ
-nameEndAt = wordAt 8
+nameEndAt = wordAt endPlace
 
 abbrev pub countAt : List ℕ → ℕ → ℕ
-countAt = wordAt 16
+countAt = wordAt countPlace
 
 abbrev pub subtreesAt : List ℕ → ℕ → ℕ
-subtreesAt = wordAt 24
+subtreesAt = wordAt subtreesPlace
 
 abbrev pub parentAt : List ℕ → ℕ → ℕ
-parentAt = wordAt 32
+parentAt = wordAt parentPlace
 
 unfoldable pub idAt : ℕ → List ℕ → ℕ → List ℕ
-idAt idLength ns i = pick (ltb i (length ns / 72)) (take idLength (drop (i * 72 + 40) ns)) []
+idAt idLength ns i = pick (ltb i (nodesIn ns)) (take idLength (drop (i * nodeSize + idPlace) ns)) []
 
 -- the part of the names from b to e; empty where it is no part of them
 unfoldable pub isPart : List ℕ → ℕ → ℕ → Bool

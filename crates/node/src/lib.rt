@@ -15,6 +15,19 @@ use wire::Unsigned;
 // The bytes of a node in the store.
 pub const NODE_SIZE: usize = 72;
 
+// Where each part of a node stands in its bytes.
+const NAME_START: usize = 0;
+
+const NAME_END: usize = 8;
+
+const COUNT: usize = 16;
+
+const SUBTREES: usize = 24;
+
+const PARENT: usize = 32;
+
+const ID: usize = 40;
+
 // The bytes of an id in the file (SHA-1), and the bytes that the store keeps for one.
 pub const ID_LENGTH: usize = 20;
 
@@ -128,11 +141,11 @@ fn put_numbers(w: &mut [u8], n: Node, parent: u64)
     requires { ⌜ 40 ≤ length (now w) ⌝ }
     ensures { λ _. ⌜ now (w .exit) ≡ paste (now (w .entry)) 0 (numbersOf n parent) 40 ⌝ }
 {
-    wire::put64(w, 0, n.start as u64);
-    wire::put64(w, 8, n.stop as u64);
-    wire::put64(w, 16, n.count);
-    wire::put64(w, 24, n.subtrees);
-    wire::put64(w, 32, parent);
+    wire::put64(w, NAME_START, n.start as u64);
+    wire::put64(w, NAME_END, n.stop as u64);
+    wire::put64(w, COUNT, n.count);
+    wire::put64(w, SUBTREES, n.subtrees);
+    wire::put64(w, PARENT, parent);
 }
 
 // Writes node i, whose id stands in the file. It is made in an array first: the compiler knows that this overlaps neither slice. Where the store has no node i,
@@ -156,10 +169,10 @@ pub fn put_node(file: &[u8], n: Node, parent: u64, nodes: &mut [u8], i: usize)
         return;
     }
     let base = i * NODE_SIZE;
-    let mut w = [0u8; 72];
+    let mut w = [0u8; NODE_SIZE];
     put_numbers(&mut w, n, parent);
-    slices::copy_bytes(file, id, bytes, &mut w, 40);
-    slices::copy_bytes(&w, 0, 72, nodes, base);
+    slices::copy_bytes(file, id, bytes, &mut w, ID);
+    slices::copy_bytes(&w, 0, NODE_SIZE, nodes, base);
 }
 
 // How many nodes a store has room for.
@@ -185,7 +198,7 @@ fn word(nodes: &[u8], i: usize, k: usize) -> u64
 pub fn name_start(nodes: &[u8], i: usize) -> FileAt
     ensures { λ r. ⌜ r ≡ fileAt (nameStartAt (now (nodes .entry)) i) ⌝ }
 {
-    let at = word(nodes, i, 0);
+    let at = word(nodes, i, NAME_START);
     FileAt(at as usize)
 }
 
@@ -193,7 +206,7 @@ pub fn name_start(nodes: &[u8], i: usize) -> FileAt
 pub fn name_end(nodes: &[u8], i: usize) -> FileAt
     ensures { λ r. ⌜ r ≡ fileAt (nameEndAt (now (nodes .entry)) i) ⌝ }
 {
-    let at = word(nodes, i, 8);
+    let at = word(nodes, i, NAME_END);
     FileAt(at as usize)
 }
 
@@ -201,21 +214,21 @@ pub fn name_end(nodes: &[u8], i: usize) -> FileAt
 pub fn count(nodes: &[u8], i: usize) -> u64
     ensures { λ r. ⌜ r ≡ countAt (now (nodes .entry)) i ⌝ }
 {
-    word(nodes, i, 16)
+    word(nodes, i, COUNT)
 }
 
 // How many subtrees node i has.
 pub fn subtrees(nodes: &[u8], i: usize) -> u64
     ensures { λ r. ⌜ r ≡ subtreesAt (now (nodes .entry)) i ⌝ }
 {
-    word(nodes, i, 24)
+    word(nodes, i, SUBTREES)
 }
 
 // The parent of node i; 2^64 - 1 for the root.
 pub fn parent(nodes: &[u8], i: usize) -> u64
     ensures { λ r. ⌜ r ≡ parentAt (now (nodes .entry)) i ⌝ }
 {
-    word(nodes, i, 32)
+    word(nodes, i, PARENT)
 }
 
 // The id of node i, all zeros where it has none; empty where there is no such node.
@@ -223,7 +236,7 @@ pub fn id(nodes: &[u8], i: usize) -> &[u8]
     ensures { λ r. ⌜ now r ≡ idAt 20 (now (nodes .entry)) i ⌝ }
 {
     if i < nodes.len() / NODE_SIZE {
-        let from = i * NODE_SIZE + 40;
+        let from = i * NODE_SIZE + ID;
         let to = from + ID_LENGTH;
         &nodes[from..to]
     } else {
@@ -235,8 +248,8 @@ pub fn id(nodes: &[u8], i: usize) -> &[u8]
 pub fn name_inside(names: &[u8], nodes: &[u8], i: usize) -> bool
     ensures { λ r. ⌜ r ≡ nameInside (now (names .entry)) (now (nodes .entry)) i ⌝ }
 {
-    let start = word(nodes, i, 0) as usize;
-    let end = word(nodes, i, 8) as usize;
+    let start = word(nodes, i, NAME_START) as usize;
+    let end = word(nodes, i, NAME_END) as usize;
     if start <= end {
         return end <= names.len();
     }
@@ -247,8 +260,8 @@ pub fn name_inside(names: &[u8], nodes: &[u8], i: usize) -> bool
 pub fn name<'a, 'b>(names: &'a [u8], nodes: &'b [u8], i: usize) -> &'a [u8]
     ensures { λ r. ⌜ now r ≡ nameAt (now (names .entry)) (now (nodes .entry)) i ⌝ }
 {
-    let start = word(nodes, i, 0) as usize;
-    let end = word(nodes, i, 8) as usize;
+    let start = word(nodes, i, NAME_START) as usize;
+    let end = word(nodes, i, NAME_END) as usize;
     if end < start {
         return &names[0..0];
     }

@@ -1,7 +1,7 @@
 -- The TREE extension read into a node store (01, Extensions, and rows 9 and 10 of "When the desk says no"), over the id's length and the depth limit. A node's
 -- subtrees are read by the same rule one level down. Where a node should begin: 9 (depth), 10 (node room), then its bytes; a repeated name spoils the tree when its
 -- parent's last subtree is done; nothing follows the root. Where the answer is no tree, every byte of the store is zero. Assumes nothing.
-use Prim.Native.Nat.{ℕ, zero, suc, _+_, _/_}
+use Prim.Native.Nat.{ℕ, zero, suc, _+_}
 use mathlib.Core.Bool.{Bool}
 use mathlib.Core.List.{List}
 use lib.ListN.{length, replicate}
@@ -12,7 +12,7 @@ use Rattle.node.specs.declared.Node.{Node}
 use Rattle.node.specs.declared.Head.{Head}
 use Rattle.node.specs.declared.Head.the-variants.{Is, Nothing}
 use Rattle.node.specs.Head.{minusOne, headAt}
-use Rattle.node.specs.Store.{putAt}
+use Rattle.node.specs.Store.{nodesIn, putAt}
 use Rattle.siblings.specs.Siblings.{siblingsDiffer}
 use Rattle.tree.specs.declared.Fault.{Fault}
 use Rattle.tree.specs.declared.Fault.the-variants.{Unspelled, Deep, Full}
@@ -55,7 +55,7 @@ body s rec parent used ns (Is n) = settled s used (kids (rec used) (n .subtrees)
 unfoldable pub nodeAt : ℕ → List ℕ → ℕ → ℕ → ℕ → ℕ → ℕ → List ℕ → Out
 nodeAt idLength s end zero parent at used ns = (Stops Deep, ns)
 nodeAt idLength s end (suc d) parent at used ns =
-    pick (leb (length ns / 72) used) (Stops Full, ns)
+    pick (leb (nodesIn ns) used) (Stops Full, ns)
     (body s (nodeAt idLength s end d) parent used ns (headAt idLength s at end))
 
 -- nothing follows the root
