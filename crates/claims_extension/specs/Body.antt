@@ -5,16 +5,14 @@ use mathlib.Core.List.{List, [], _∷_, _++_, append-assoc}
 use native.Mathlib.Omega.{arith}
 use lib.ListN.{length, take, drop, length-append, length-drop}
 use lib.Seq.{drop-at, drop-drop, take-at, take-add, take-take, length-take-le}
-use Rattle.laws.specs.Read.{Begins}
 use Rattle.laws.specs.Fill.{done, more}
 use Rattle.grammar.specs.Extension.{Ext, Framed, framed, extensionHeader, Extensions, bytesOf, LastSigned, last-signed}
-use Rattle.grammar.specs.Fault.{refused, Faulty, refused-extension}
+use Rattle.grammar.specs.Fault.{refused, Faulty, refused-extension, extensions-length}
 use Rattle.grammar.specs.DecideNumber.{big-endian-length}
 use Rattle.claims_extension.specs.Words.{Bytes, bytes-left, bytes-right, FourBytes}
 use Rattle.claims_extension.specs.Said.{extensionsSpace}
 
--- xs, which begins at a place, has the body at another
-
+-- xs, which begins at one place, has the body at another
 record Within (at : ℕ) (xs : List ℕ) (place : ℕ) (body : List ℕ) : Type 0 where
   front : List ℕ
   rest : List ℕ
@@ -30,9 +28,6 @@ framed-within (framed {signature = s} {size = z} {body = d} h x) at c =
       place-is = omega (arith, length-append s z, big-endian-length x);
     }
 
-framed-length : {b : List ℕ} {e : Ext} → Framed b e → length b ≡ extensionHeader + length (e .body)
-framed-length (framed {signature = s} {size = z} {body = d} h x) = omega (arith, length-append s (z ++ d), length-append z d, big-endian-length x)
-
 within : (before : List Ext) (e : Ext) (behind : List Ext) {xs : List ℕ} {es : List Ext} → Extensions xs es → es ≡ before ++ (e ∷ behind) → (at : ℕ)
     → Within at xs (at + bytesOf before + extensionHeader) (e .body)
 within [] e behind done i at = let z : _≡_ {A = ℕ} 0 1 = cc in absurd (omega arith)
@@ -45,7 +40,8 @@ within [] e behind (more {v = v} {b = b} {c = c} x y) i at =
 within (d ∷ before) e behind (more {v = v} {vs = vs} {b = b} {c = c} x y) i at =
     let j : v ≡ d = cc in
     let k : vs ≡ before ++ (e ∷ behind) = cc in
-    let l : length b ≡ extensionHeader + length (d .body) = framed-length (x .is-framed) ∙ ap (λ (a : Ext). extensionHeader + length (a .body)) j in
+    let l : length b ≡ extensionHeader + length (d .body) =
+    omega (arith, length-append b [], extensions-length (more x done), ap (λ (a : Ext). length (a .body)) j) in
     let w = within before e behind y k (at + length b) in
     record {
       front = b ++ w .front;

@@ -1,18 +1,13 @@
 -- THE CLAIMS on extensions: what `walkAt` answers of the space behind the entries is said by the grammar alone. `SaysExtensions` has one rule for each answer; the walk gives an
 -- answer of which its rule holds, and the only one. Filled, with the mark and the last TREE, exactly if extensions that may stand fill the space; 7 and 8 exactly where the
 -- grammar has that fault. Assumes that the file is bytes and that the space lies in it, each a premise with a name.
-use Prim.Native.Nat.{ℕ, _+_, _-_, _≤_}
-use mathlib.Core.Path.{_≡_, refl, sym, ap, _∙_, subst}
-use mathlib.Core.Bool.{Bool, true, false}
-use mathlib.Core.List.{List, [], _∷_, _++_, append-assoc}
+use Prim.Native.Nat.{ℕ, _+_, _≤_}
+use mathlib.Core.Path.{_≡_, refl, sym, subst}
+use mathlib.Core.Bool.{Bool}
+use mathlib.Core.List.{List}
 use mathlib.Core.Logic.{_↔_}
-use native.Mathlib.Omega.{arith}
-use lib.ListN.{length, take, drop, length-append, length-drop}
-use lib.Seq.{drop-at, drop-drop, take-at, take-add, take-take, length-take-le}
-use Rattle.laws.specs.Read.{Begins}
-use Rattle.laws.specs.Fill.{done, more}
+use lib.ListN.{length}
 use Rattle.wire.specs.Places.{fileAt}
-use Rattle.wire.specs.declared.FileAt.{FileAt}
 use Rattle.extension.specs.Signatures as reader
 use Rattle.extension.specs.Decode.{walkAt}
 use Rattle.extension.specs.Filling.{SaysWalk, is-filled, is-not-filled, is-mandatory, walk-says}
@@ -21,12 +16,11 @@ use Rattle.extension.specs.declared.iter.Body.the-variants.{Lies, Missing}
 use Rattle.extension.specs.declared.decode.Walked.{Walked}
 use Rattle.extension.specs.declared.decode.Walked.the-variants.{Filled, NotFilled, Mandatory}
 use Rattle.grammar.specs.Number.{bigEndian}
-use Rattle.grammar.specs.Extension.{Ext, Framed, framed, extensionHeader, TREE, Extension, Extensions, NoneSigned, bytesOf, LastSigned, last-signed}
+use Rattle.grammar.specs.Extension.{Ext, TREE, Extensions, NoneSigned, LastSigned}
 use Rattle.grammar.specs.File.{Tells}
 use Rattle.grammar.specs.Fault.{stray, refused, Faulty, fault-not-spelled}
 use Rattle.grammar.specs.Unique.{extensions-unique}
-use Rattle.grammar.specs.DecideNumber.{big-endian-length}
-use Rattle.claims_extension.specs.Words.{Bytes, bytes-left, bytes-right, bytes-within, FourBytes, signature-injective, TREE-bytes}
+use Rattle.claims_extension.specs.Words.{Bytes, bytes-within, FourBytes, signature-injective, TREE-bytes}
 use Rattle.claims_extension.specs.Said.{extensionsSpace, HasSdir, SaysBody, says-missing, says-lies, SaysExtensions, says-filled, says-not-filled, says-mandatory, one-answer}
 use Rattle.claims_extension.specs.Body.{BodyAt, body-at, refused-is-four-bytes}
 use Rattle.claims_extension.specs.Means.{body-says, mark-says, chain-fills, chain-strays, chain-refused}
@@ -105,18 +99,18 @@ module _ (s : List ℕ) (bytes : Bytes s) (from end : ℕ) (ahead : from ≤ end
       of (says-filled {es = es} x m l) = (es, x)
 
   -- marked exactly if one of them is `sdir`
-  pub mark-exactly : (es : List Ext) → Extensions space es → (sparse : Bool) → ((body : Body) × (walked ≡ Filled sparse body)) ↔ Tells (HasSdir es) sparse
-  mark-exactly es x sparse = ((λ (body, e). filled-exactly es x sparse body .0 e .0), (λ m. let (a, body, n, l) = told es x in (body, no-second-answer (says-filled x m l))))
+  pub marked-exactly-if-sdir : (es : List Ext) → Extensions space es → (sparse : Bool) → ((body : Body) × (walked ≡ Filled sparse body)) ↔ Tells (HasSdir es) sparse
+  marked-exactly-if-sdir es x sparse = ((λ (body, e). filled-exactly es x sparse body .0 e .0), (λ m. let (a, body, n, l) = told es x in (body, no-second-answer (says-filled x m l))))
 
   -- no body exactly if none of them is a TREE
-  pub missing-exactly : (es : List Ext) → Extensions space es → ((sparse : Bool) × (walked ≡ Filled sparse Missing)) ↔ NoneSigned TREE es
-  missing-exactly es x =
+  pub missing-exactly-if-no-TREE : (es : List Ext) → Extensions space es → ((sparse : Bool) × (walked ≡ Filled sparse Missing)) ↔ NoneSigned TREE es
+  missing-exactly-if-no-TREE es x =
       ((λ (sparse, e). missing (filled-exactly es x sparse Missing .0 e .1)), (λ n. let (sparse, body, m, l) = told es x in (sparse, no-second-answer (says-filled x m (says-missing n)))))
 
   -- a body exactly where the last TREE has it
-  pub lies-exactly : (es : List Ext) → Extensions space es → (start stop : ℕ)
+  pub lies-exactly-where-the-last-TREE-lies : (es : List Ext) → Extensions space es → (start stop : ℕ)
       → ((sparse : Bool) × (walked ≡ Filled sparse (Lies (fileAt start) (fileAt stop)))) ↔ ((body : List ℕ) × LastSigned TREE from es start body × (stop ≡ start + length body))
-  lies-exactly es x start stop = (
+  lies-exactly-where-the-last-TREE-lies es x start stop = (
     (λ (sparse, e). lies (filled-exactly es x sparse (Lies (fileAt start) (fileAt stop)) .0 e .1)),
     (λ (body, l, i). let (sparse, b, m, k) = told es x in (sparse, rw i (no-second-answer (says-filled x m (says-lies l))))),
   )
@@ -125,19 +119,19 @@ module _ (s : List ℕ) (bytes : Bytes s) (from end : ℕ) (ahead : from ≤ end
   pub body-is-the-bytes : (es : List Ext) → Extensions space es → (place : ℕ) (body : List ℕ) → LastSigned TREE from es place body → BodyAt s end place body
   body-is-the-bytes es x place body l = body-at s from end ahead inside x l
 
-  -- 7
-  pub not-filled-exactly : (place : ℕ) → (walked ≡ NotFilled (fileAt place)) ↔ Faulty from space (stray place)
-  not-filled-exactly place = ((λ e. strayed (subst (SaysExtensions from space) e answer-says)), (λ f. no-second-answer (says-not-filled f)))
+  -- 7: the space is not exactly filled, from this place on
+  pub refusal-7-exactly : (place : ℕ) → (walked ≡ NotFilled (fileAt place)) ↔ Faulty from space (stray place)
+  refusal-7-exactly place = ((λ e. strayed (subst (SaysExtensions from space) e answer-says)), (λ f. no-second-answer (says-not-filled f)))
 
-  -- 8
-  pub mandatory-exactly : (n : ℕ) → (walked ≡ Mandatory n) ↔ ((signature : List ℕ) × Faulty from space (refused signature) × (n ≡ bigEndian signature))
-  mandatory-exactly n = ((λ e. named (subst (SaysExtensions from space) e answer-says)), (λ (signature, f, i). rw i (no-second-answer (says-mandatory f))))
+  -- 8: an extension that may not stand, with its signature as a number
+  pub refusal-8-exactly : (n : ℕ) → (walked ≡ Mandatory n) ↔ ((signature : List ℕ) × Faulty from space (refused signature) × (n ≡ bigEndian signature))
+  refusal-8-exactly n = ((λ e. named (subst (SaysExtensions from space) e answer-says)), (λ (signature, f, i). rw i (no-second-answer (says-mandatory f))))
 
   -- the same, by the signature's four bytes
-  pub mandatory-names-the-signature : (signature : List ℕ) → FourBytes signature → (walked ≡ Mandatory (bigEndian signature)) ↔ Faulty from space (refused signature)
-  mandatory-names-the-signature signature four = (
+  pub refusal-8-names-the-signature : (signature : List ℕ) → FourBytes signature → (walked ≡ Mandatory (bigEndian signature)) ↔ Faulty from space (refused signature)
+  refusal-8-names-the-signature signature four = (
     (λ e.
-        let (other, f, i) = mandatory-exactly (bigEndian signature) .0 e in
+        let (other, f, i) = refusal-8-exactly (bigEndian signature) .0 e in
         subst (λ (a : List ℕ). Faulty from space (refused a)) (signature-injective (refused-is-four-bytes (bytes-within s from end bytes) f) four (sym i)) f),
     (λ f. no-second-answer (says-mandatory f)),
   )

@@ -3,12 +3,11 @@
 use Prim.Native.Nat.{ℕ, _+_, _-_, _≤_, _<_}
 use mathlib.Core.Path.{_≡_, refl, sym, ap, _∙_, subst}
 use mathlib.Core.Bool.{Bool, true, false}
-use mathlib.Core.List.{List, [], _∷_, _++_, append-assoc, append-nil}
+use mathlib.Core.List.{List, [], _∷_, _++_, append-assoc}
 use mathlib.Core.Logic.{⊎-elim}
 use native.Mathlib.Omega.{arith}
-use lib.Dec.{ltb, leb, eqb}
 use lib.ListN.{length, getD, take, drop, length-append, length-drop, take-append-drop}
-use lib.Seq.{take-add, drop-drop, take-at, drop-at, length-take-le, drop-length}
+use lib.Seq.{drop-drop, take-at, drop-at, length-take-le, drop-length}
 use Rattle.laws.specs.Pick.{pick}
 use Rattle.laws.specs.Tests.{Less, less, not-less, less?, AtMost, at-most, above, at-most?, Same, same, differs, same?, lt-or-ge}
 use Rattle.laws.specs.Read.{Begins, cut}
@@ -30,13 +29,13 @@ use Rattle.grammar.specs.Fault as fault
 use Rattle.grammar.specs.Fault.{Faulty, stray-bytes, refused-extension}
 use Rattle.grammar.specs.File.{Tells, it-is, it-is-not}
 use Rattle.grammar.specs.DecideNumber.{big-endian-length}
-use Rattle.claims_extension.specs.Words.{Bytes, bytes-left, bytes-right, bytes-within, FourBytes, signature-injective, big-endian-before, big-endian-value, first-byte, sdir-bytes}
+use Rattle.claims_extension.specs.Words.{Bytes, bytes-left, bytes-within, FourBytes, signature-injective, big-endian-before, big-endian-value, first-byte, sdir-bytes}
 use Rattle.claims_extension.specs.Said.{HasSdir, SaysBody, says-missing, says-lies, last-is-some, none-is-some}
 
 -- ---- which may stand
 
 -- an extension that was found, which begins at a place, and one of the grammar say the same
-pub record Same-extension (at : ℕ) (f : Found) (e : Ext) : Type 0 where
+pub record SameExtension (at : ℕ) (f : Found) (e : Ext) : Type 0 where
   pub named : f .signature ≡ bigEndian (e .signature)
   pub four : FourBytes (e .signature)
   pub starts : f .start ≡ fileAt (at + extensionHeader)
@@ -54,7 +53,7 @@ no-bytes : (b : List ℕ) → length b ≤ 0 → b ≡ []
 no-bytes [] h = refl
 no-bytes (c ∷ b) h = absurd (omega arith)
 
-pub judged : {at : ℕ} {f : Found} {e : Ext} → Same-extension at f e → Judged e (isForbidden f)
+pub judged : {at : ℕ} {f : Found} {e : Ext} → SameExtension at f e → Judged e (isForbidden f)
 unfolding forbidden
 judged {at} {f} {e} x =
     let p : f .start .0 ≡ at + extensionHeader = ap (λ (y : FileAt). y .0) (x .starts) in
@@ -79,14 +78,14 @@ judged {at} {f} {e} x =
         let j : ext sdir [] ≡ e = λ n. ext (sym s n) (sym b n) in
         may-stand (subst Allowed j empty-sdir)
 
-pub allowed-if : {at : ℕ} {f : Found} {e : Ext} → Same-extension at f e → isForbidden f ≡ false → Allowed e
+pub allowed-if : {at : ℕ} {f : Found} {e : Ext} → SameExtension at f e → isForbidden f ≡ false → Allowed e
 allowed-if {f = f} {e} x q = go (judged x) q
   where
     go : {t : Bool} → Judged e t → t ≡ false → Allowed e
     go (may-stand a) r = a
     go (may-not k) r = let z : _≡_ {A = ℕ} 0 1 = cc in absurd (omega arith)
 
-pub refused-if : {at : ℕ} {f : Found} {e : Ext} → Same-extension at f e → isForbidden f ≡ true → Allowed e → ⊥
+pub refused-if : {at : ℕ} {f : Found} {e : Ext} → SameExtension at f e → isForbidden f ≡ true → Allowed e → ⊥
 refused-if {f = f} {e} x q = go (judged x) q
   where
     go : {t : Bool} → Judged e t → t ≡ true → Allowed e → ⊥
@@ -95,12 +94,12 @@ refused-if {f = f} {e} x q = go (judged x) q
 
 -- ---- lists that say the same
 
-pub data Same-extensions : ℕ → List Found → List Ext → Type 0 where
-  none-found : {at : ℕ} → Same-extensions at [] []
-  one-found : {at : ℕ} {f : Found} {fs : List Found} {e : Ext} {es : List Ext} → Same-extension at f e → Same-extensions (f .stop .0) fs es → Same-extensions at (f ∷ fs) (e ∷ es)
+pub data SameExtensions : ℕ → List Found → List Ext → Type 0 where
+  none-found : {at : ℕ} → SameExtensions at [] []
+  one-found : {at : ℕ} {f : Found} {fs : List Found} {e : Ext} {es : List Ext} → SameExtension at f e → SameExtensions (f .stop .0) fs es → SameExtensions at (f ∷ fs) (e ∷ es)
 
 module _ {signature : List ℕ} (four : FourBytes signature) where
-  none-signed : {at : ℕ} {fs : List Found} {es : List Ext} → Same-extensions at fs es → filling.NoneSigned (bigEndian signature) fs → NoneSigned signature es
+  none-signed : {at : ℕ} {fs : List Found} {es : List Ext} → SameExtensions at fs es → filling.NoneSigned (bigEndian signature) fs → NoneSigned signature es
   none-signed none-found filling.none-left = none-left
   none-signed (one-found x y) (filling.another d n) = another (λ i. d (x .named ∙ ap bigEndian i)) (none-signed y n)
 
@@ -115,7 +114,7 @@ module _ {signature : List ℕ} (four : FourBytes signature) where
     starts : f .start ≡ fileAt (at + bytesOf before + extensionHeader)
     stops : f .stop ≡ fileAt (at + bytesOf before + extensionHeader + length (e .body))
 
-  last-found : {at : ℕ} {fs : List Found} {f : Found} {es : List Ext} → Same-extensions at fs es → filling.LastSigned (bigEndian signature) fs f → Last at f es
+  last-found : {at : ℕ} {fs : List Found} {f : Found} {es : List Ext} → SameExtensions at fs es → filling.LastSigned (bigEndian signature) fs f → Last at f es
   last-found {at} (one-found {e = d} {es = es} x y) (filling.this i n) =
       let z : at + extensionHeader ≡ at + 0 + extensionHeader = omega arith in
       record {
@@ -148,14 +147,14 @@ module _ {signature : List ℕ} (four : FourBytes signature) where
       (at + bytesOf (l .before) + extensionHeader, l .e .body, last-signed (l .before) (l .behind) (l .joins) (l .signed) (l .none), (λ i. Lies (l .starts i) (l .stops i)))
 
   -- the body that is answered
-  pub body-says : {at : ℕ} {fs : List Found} {es : List Ext} {b : Body} → Same-extensions at fs es → filling.SaysLast (bigEndian signature) Missing fs b → SaysBody signature at es b
+  pub body-says : {at : ℕ} {fs : List Found} {es : List Ext} {b : Body} → SameExtensions at fs es → filling.SaysLast (bigEndian signature) Missing fs b → SaysBody signature at es b
   body-says x (filling.as-before n) = says-missing (none-signed x n)
   body-says {at} {es = es} x (filling.the-last l) =
       let (place, body, m, e) = signed-body (last-found x l) in
       subst (SaysBody signature at es) (sym e) (says-lies m)
 
 -- the mark that is answered
-pub mark-says : {at : ℕ} {fs : List Found} {es : List Ext} {t : Bool} → Same-extensions at fs es → filling.SaysSparse false fs t → Tells (HasSdir es) t
+pub mark-says : {at : ℕ} {fs : List Found} {es : List Ext} {t : Bool} → SameExtensions at fs es → filling.SaysSparse false fs t → Tells (HasSdir es) t
 mark-says x (filling.marked l) = let (place, body, m, e) = signed-body sdir-bytes (last-found sdir-bytes x l) in it-is (last-is-some m)
 mark-says x (filling.unmarked n) = it-is-not (none-is-some (none-signed sdir-bytes x n))
 
@@ -183,7 +182,7 @@ module _ (s : List ℕ) (bytes : Bytes s) (end : ℕ) (inside : end ≤ length s
     is-framed : Framed b e
     here : space at ≡ b ++ space (f .stop .0)
     size : at + length b ≡ f .stop .0
-    says : Same-extension at f e
+    says : SameExtension at f e
 
   means : (at : ℕ) (f : Found) → Stands s at end f → Means at f
   means at f w =
@@ -238,7 +237,7 @@ module _ (s : List ℕ) (bytes : Bytes s) (end : ℕ) (inside : end ≤ length s
 
   -- ---- a chain of them
 
-  pub chain-fills : {at : ℕ} {fs : List Found} → Chain s end at fs filled → filling.NoneForbidden fs → (es : List Ext) × Same-extensions at fs es × Extensions (space at) es
+  pub chain-fills : {at : ℕ} {fs : List Found} → Chain s end at fs filled → filling.NoneForbidden fs → (es : List Ext) × SameExtensions at fs es × Extensions (space at) es
   chain-fills {at} (chain-filled i q) filling.all-allowed = ([], none-found, rw (ap space q ∙ nothing-left) done)
   chain-fills {at} (chain-more {f = f} w c) (filling.allowed a n) =
       let m = means at f w in

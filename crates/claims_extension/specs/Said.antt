@@ -1,8 +1,8 @@
 -- What the claims say: the rule of each answer of the walk over the extensions, in the grammar's terms. Of the reader only its answers are named here (01, "Extensions" and
 -- "When the desk says no", 7 and 8). Assumes nothing.
-use Prim.Native.Nat.{ℕ, _+_, _≤_}
-use mathlib.Core.Path.{_≡_, sym, ap, _∙_}
-use mathlib.Core.Bool.{Bool, true, false}
+use Prim.Native.Nat.{ℕ, _+_}
+use mathlib.Core.Path.{_≡_}
+use mathlib.Core.Bool.{Bool, true}
 use mathlib.Core.List.{List, [], _∷_, _++_}
 use native.Mathlib.Omega.{arith}
 use lib.ListN.{length, take, drop}
@@ -14,7 +14,7 @@ use Rattle.extension.specs.declared.decode.Walked.{Walked}
 use Rattle.extension.specs.declared.decode.Walked.the-variants.{Filled, NotFilled, Mandatory}
 use Rattle.grammar.specs.Number.{bigEndian}
 use Rattle.grammar.specs.Entry.{Meaning}
-use Rattle.grammar.specs.Extension.{Ext, sdir, TREE, Extensions, NoneSigned, none-left, another, LastSigned, last-signed}
+use Rattle.grammar.specs.Extension.{Ext, sdir, TREE, Extensions, NoneSigned, another, LastSigned, last-signed}
 use Rattle.grammar.specs.File.{directoryMode, Some, this, other, Sparse, by-entry, by-sdir, Tells, it-is, it-is-not}
 use Rattle.grammar.specs.Fault.{stray, refused, Faulty, fault-unique, fault-not-spelled}
 use Rattle.grammar.specs.Unique.{extensions-unique}
@@ -51,6 +51,9 @@ one-body (says-missing x) (says-lies m) = absurd (none-not-last x m)
 one-body (says-lies l) (says-missing y) = absurd (none-not-last y l)
 one-body (says-lies l) (says-lies m) = let (p, q) = last-unique l m in λ i. Lies (fileAt (p i)) (fileAt (p i + length (q i)))
 
+two-faults : {place : ℕ} {signature : List ℕ} → stray place ≡ refused signature → ⊥
+two-faults e = let z : _≡_ {A = ℕ} 0 1 = cc in omega arith
+
 pub one-answer : {from : ℕ} {xs : List ℕ} {v w : Walked} → SaysExtensions from xs v → SaysExtensions from xs w → v ≡ w
 one-answer {from} {xs} (says-filled {es = es} {sparse = a} {body = b} x m l) (says-filled {es = fs} {sparse = c} {body = d} y n k) =
     let e : fs ≡ es = extensions-unique xs fs es y x in
@@ -62,20 +65,11 @@ one-answer {from} {xs} (says-filled {es = es} {sparse = a} {body = b} x m l) (sa
 one-answer (says-filled x m l) (says-not-filled f) = absurd (fault-not-spelled f x)
 one-answer (says-filled x m l) (says-mandatory f) = absurd (fault-not-spelled f x)
 one-answer (says-not-filled f) (says-filled x m l) = absurd (fault-not-spelled f x)
-one-answer (says-not-filled {place = p} f) (says-not-filled {place = q} g) = let e : stray p ≡ stray q = fault-unique f g in let i : p ≡ q = cc in ap (λ (j : ℕ). NotFilled (fileAt j)) i
-one-answer (says-not-filled f) (says-mandatory g) = absurd (apart (fault-unique f g))
-  where
-    apart : {p : ℕ} {s : List ℕ} → stray p ≡ refused s → ⊥
-    apart e = let z : _≡_ {A = ℕ} 0 1 = cc in omega arith
+one-answer (says-not-filled {place = p} f) (says-not-filled {place = q} g) = let e : stray p ≡ stray q = fault-unique f g in cc
+one-answer (says-not-filled f) (says-mandatory g) = absurd (two-faults (fault-unique f g))
 one-answer (says-mandatory f) (says-filled x m l) = absurd (fault-not-spelled f x)
-one-answer (says-mandatory f) (says-not-filled g) = absurd (apart (fault-unique f g))
-  where
-    apart : {p : ℕ} {s : List ℕ} → refused s ≡ stray p → ⊥
-    apart e = let z : _≡_ {A = ℕ} 0 1 = cc in omega arith
-one-answer (says-mandatory {signature = a} f) (says-mandatory {signature = b} g) =
-    let e : refused a ≡ refused b = fault-unique f g in
-    let i : a ≡ b = cc in
-    ap (λ (s : List ℕ). Mandatory (bigEndian s)) i
+one-answer (says-mandatory f) (says-not-filled g) = absurd (two-faults (fault-unique g f))
+one-answer (says-mandatory {signature = a} f) (says-mandatory {signature = b} g) = let e : refused a ≡ refused b = fault-unique f g in cc
 
 -- ---- the mark
 
