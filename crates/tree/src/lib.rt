@@ -11,14 +11,14 @@ use siblings::Rising;
 pub const DEPTH_LIMIT: usize = 64;
 
 // Why a walk stops.
-enum Fault {
+pub enum Fault {
     Unspelled,
     Deep,
     Full,
 }
 
 // A node with all its subtrees: where it ends in the file, and the nodes used after it.
-enum Step {
+pub enum Step {
     Read { next: usize, used: usize },
     Stops(Fault),
 }
