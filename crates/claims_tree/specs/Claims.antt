@@ -15,7 +15,7 @@ use Rattle.laws.specs.Pick.{pick}
 use Rattle.laws.specs.Put.{put-front}
 use Rattle.laws.specs.Tests.{Same, same, differs, same?}
 use Rattle.node.specs.Head.{minusOne}
-use Rattle.node.specs.Store.{nodesIn}
+use Rattle.node.specs.Store.{idRoom}
 use Rattle.tree.specs.declared.Step.the-variants.{Read, Stops}
 use Rattle.tree.specs.declared.Fault.the-variants.{Unspelled}
 use Rattle.tree.specs.declared.TreeAnswer.{TreeAnswer}
@@ -27,50 +27,12 @@ use Rattle.grammar.specs.Walk.{Reaches}
 use Rattle.grammar.specs.Descent.{Comes, reached-exactly-by-a-way}
 use Rattle.grammar.specs.Reach.{reaches-within, reaches-each-depth, reaches-each-node, depth-within, nodes-within}
 use Rattle.grammar.specs.Unique.{node-unique, tree-unique}
+use Rattle.claims_entries.specs.Said.{SpaceIn}
 use Rattle.claims_entries.specs.Shown.{Addressable}
 use Rattle.claims_tree.specs.Place.{part}
 use Rattle.claims_tree.specs.Rendering.{treeBytes, filled}
+use Rattle.claims_tree.specs.Said.{GoesTooDeep, UsesUp, SpellsTree, SpellsTreeWithin, KeepsWithinDepth, HasRoom, lent, zeroed, Left, SaysReadTree, says-tree, says-too-deep, says-no-room, says-malformed}
 use Rattle.claims_tree.specs.Walk.{SaysNode, is-read, is-unspelled, is-full, is-deep, node-says}
-
--- ---- what each answer says, over the grammar alone
-
--- every byte zero
-abbrev pub zeroed : List ℕ → List ℕ
-zeroed store = replicate (length store) 0
-
--- how many whole nodes a store has room for
-abbrev pub lent : List ℕ → ℕ
-lent store = nodesIn store
-
--- one level below the limit a node should begin, after no more heads than nodes are lent
-abbrev pub GoesTooDeep : ℕ → List ℕ → ℕ → ℕ → Type 0
-GoesTooDeep n body limit room = (k : ℕ) × (k ≤ room) × Reaches n body (suc limit) k
-
--- after as many heads as nodes are lent a node should begin
-abbrev pub UsesUp : ℕ → List ℕ → ℕ → Type 0
-UsesUp n body room = (d : ℕ) × Reaches n body d room
-
--- the body is a tree from this place on
-abbrev pub SpellsTree : ℕ → ℕ → List ℕ → Type 0
-SpellsTree n place body = (t : Tree) × Node n place body t
-
-pub data SaysReadTree (n place : ℕ) (body : List ℕ) (limit : ℕ) (store : List ℕ) : TreeAnswer × List ℕ → Type 0 where
-  says-tree : {t : Tree} → Node n place body t → depth t ≤ limit → nodes t ≤ lent store → SaysReadTree n place body limit store (IsTree (nodes t), filled store (treeBytes t))
-  says-too-deep : GoesTooDeep n body limit (lent store) → SaysReadTree n place body limit store (TooDeep, zeroed store)
-  -- where both are met, depth comes first
-  says-no-room : UsesUp n body (lent store) → ¬ GoesTooDeep n body limit (lent store) → SaysReadTree n place body limit store (NoRoom, zeroed store)
-  says-malformed : ¬ SpellsTree n place body → ¬ GoesTooDeep n body limit (lent store) → ¬ UsesUp n body (lent store) → SaysReadTree n place body limit store (Malformed, zeroed store)
-
--- the premises of the claims, each of the walk alone: no node should begin below the limit, and none for which no room is lent
-abbrev pub KeepsWithinDepth : ℕ → List ℕ → ℕ → Type 0
-KeepsWithinDepth n body limit = (k : ℕ) → ¬ Reaches n body (suc limit) k
-
-abbrev pub HasRoom : ℕ → List ℕ → ℕ → Type 0
-HasRoom n body room = (d : ℕ) → ¬ Reaches n body d room
-
--- a tree of so many nodes, no deeper than the limit, for which there is room
-abbrev pub SpellsTreeWithin : ℕ → ℕ → List ℕ → ℕ → ℕ → ℕ → Type 0
-SpellsTreeWithin n place body limit room k = (t : Tree) × Node n place body t × (depth t ≤ limit) × (nodes t ≤ room) × (k ≡ nodes t)
 
 -- ---- no two answers, by the grammar alone
 
@@ -81,7 +43,7 @@ tree-not-full : {n place : ℕ} {body : List ℕ} {t : Tree} {room : ℕ} → No
 tree-not-full {n} {place} {body} {t} {room} x h (d, r) = omega (arith, reaches-within n body place t x d room r .1)
 
 module _ {n place : ℕ} {body : List ℕ} {limit : ℕ} {store : List ℕ} where
-  one-answer : {a b : TreeAnswer × List ℕ} → SaysReadTree n place body limit store a → SaysReadTree n place body limit store b → a ≡ b
+  one-answer : {a b : Left} → SaysReadTree n place body limit store a → SaysReadTree n place body limit store b → a ≡ b
   one-answer (says-tree x h k) (says-tree y l m) = ap (λ (t : Tree). (IsTree (nodes t), filled store (treeBytes t))) (tree-unique x y)
   one-answer (says-tree x h k) (says-too-deep d) = absurd (tree-not-deep (lent store) x h d)
   one-answer (says-tree x h k) (says-no-room f d) = absurd (tree-not-full x k f)
@@ -99,12 +61,12 @@ module _ {n place : ℕ} {body : List ℕ} {limit : ℕ} {store : List ℕ} wher
   one-answer (says-malformed f d e) (says-no-room g h) = absurd (e g)
   one-answer (says-malformed f d e) (says-malformed g h i) = refl
 
-module _ (n : ℕ) (fits : n ≤ 32) (limit : ℕ) (s : List ℕ) (start end : ℕ) (ns : List ℕ) (ahead : start ≤ end) (inside : end ≤ length s) (short : Addressable s) (small : Addressable ns) where
+module _ (n : ℕ) (fits : n ≤ idRoom) (limit : ℕ) (s : List ℕ) (start end : ℕ) (ns : List ℕ) (lies-in : SpaceIn s start end) (short : Addressable s) (small : Addressable ns) where
   -- the bytes from start to end
   abbrev bytes : List ℕ
   bytes = part s start end
 
-  abbrev reading : TreeAnswer × List ℕ
+  abbrev reading : Left
   reading = readTree n limit s start end ns
 
   comes : {d k : ℕ} → Reaches n bytes d k → Comes n start bytes d k
@@ -114,30 +76,27 @@ module _ (n : ℕ) (fits : n ≤ 32) (limit : ℕ) (s : List ℕ) (start end : �
   reached {d} {k} r = reached-exactly-by-a-way n start bytes d k .1 r
 
   size : length bytes ≡ end - start
-  size = length-drop start (take end s) ∙ ap (λ (k : ℕ). k - start) (length-take-le end s inside)
+  size = length-drop start (take end s) ∙ ap (λ (k : ℕ). k - start) (length-take-le end s (lies-in .inside))
 
   bad : ¬ SpellsTree n start bytes → ((d k : ℕ) → Comes n start bytes d k → (d ≤ limit) × (k < lent ns)) → SaysReadTree n start bytes limit ns (Malformed, zeroed ns)
   bad f w = says-malformed f (λ (k, l, r). omega (arith, w (suc limit) k (comes r) .0)) (λ (d, r). omega (arith, w d (lent ns) (comes r) .1))
 
+  same-length : (o : Out) → nodeAt n s end limit minusOne start 0 ns ≡ o → length (o .1) ≡ length ns
+  same-length o e = ap (λ (o : Out). length (o .1)) (sym e) ∙ node-kept n fits s end limit minusOne start 0 ns .long
+
   -- the root, and nothing behind it
   root-says : (o : Out) → nodeAt n s end limit minusOne start 0 ns ≡ o → SaysNode n s end limit minusOne start 0 (lent ns) ns o → SaysReadTree n start bytes limit ns (wiped (andThen o (alone end)))
-  root-says o e (is-unspelled {ms = ms} f) =
-      let long : length ms ≡ length ns = ap (λ (o : Out). length (o .1)) (sym e) ∙ node-kept n fits s end limit minusOne start 0 ns .long in
-      rw long (bad (λ (t, x). f .none t [] (bytes, sym (append-nil bytes), x)) (f .within))
-  root-says o e (is-full {ms = ms} f) =
-      let long : length ms ≡ length ns = ap (λ (o : Out). length (o .1)) (sym e) ∙ node-kept n fits s end limit minusOne start 0 ns .long in
-      rw long (says-no-room (f .depth, reached (f .comes)) (λ (k, l, r). omega (arith, f .shallow (suc limit) k (comes r) l)))
-  root-says o e (is-deep {ms = ms} f) =
-      let long : length ms ≡ length ns = ap (λ (o : Out). length (o .1)) (sym e) ∙ node-kept n fits s end limit minusOne start 0 ns .long in
-      rw long (says-too-deep (f .heads, f .early, reached (f .comes)))
+  root-says o e (is-unspelled f) =
+      rw (same-length o e) (bad (λ (t, x). f .none t [] (bytes, sym (append-nil bytes), x)) (f .within))
+  root-says o e (is-full f) =
+      rw (same-length o e) (says-no-room (f .depth, reached (f .comes)) (λ (k, l, r). omega (arith, f .shallow (suc limit) k (comes r) l)))
+  root-says o e (is-deep f) =
+      rw (same-length o e) (says-too-deep (f .heads, f .early, reached (f .comes)))
   root-says o e (is-read {b = b} {t = t} {ms = ms} a i u x y w z stored par nam) = go (same? (start + length b) end)
     where
-      long : length ms ≡ length ns
-      long = ap (λ (o : Out). length (o .1)) (sym e) ∙ node-kept n fits s end limit minusOne start 0 ns .long
-
       whole : start + length b ≡ end → Node n start bytes t
       whole q =
-          let r : part s (start + length b) end ≡ [] = ap (λ (k : ℕ). drop k (take end s)) (q ∙ sym (length-take-le end s inside)) ∙ drop-length (take end s) in
+          let r : part s (start + length b) end ≡ [] = ap (λ (k : ℕ). drop k (take end s)) (q ∙ sym (length-take-le end s (lies-in .inside))) ∙ drop-length (take end s) in
           subst (λ (c : List ℕ). Node n start c t) (sym (i ∙ ap (λ (c : List ℕ). b ++ c) r ∙ append-nil b)) u
 
       there : ms ≡ filled ns (treeBytes t)
@@ -151,17 +110,17 @@ module _ (n : ℕ) (fits : n ≤ 32) (limit : ℕ) (s : List ℕ) (start end : �
 
       go : {v : Bool} → Same (start + length b) end v → SaysReadTree n start bytes limit ns (wiped (pick v (Read (start + length b) (0 + nodes t)) (Stops Unspelled), ms))
       go (same q) = rw (zero-add (nodes t), there) (says-tree (whole q) x y)
-      go (differs q) = rw long (bad (longer q) w)
+      go (differs q) = rw (same-length o e) (bad (longer q) w)
 
   -- ---- of the answer that is given its rule holds
   pub answer-says : SaysReadTree n start bytes limit ns reading
   unfolding readTree rootAt
   answer-says =
-      rw (le-ltb end start ahead, le-ltb (length s) end inside)
-      (root-says (nodeAt n s end limit minusOne start 0 ns) refl (node-says n fits s end inside (omega arith) limit minusOne start 0 (lent ns) ns ahead (omega arith) (zero-add (lent ns)) (omega arith)))
+      rw (le-ltb end start (lies-in .ahead), le-ltb (length s) end (lies-in .inside))
+      (root-says (nodeAt n s end limit minusOne start 0 ns) refl (node-says n fits s end (lies-in .inside) (omega arith) limit minusOne start 0 (lent ns) ns (lies-in .ahead) (omega arith) (zero-add (lent ns)) (omega arith)))
 
   -- and no other's
-  pub no-second-answer : {o : TreeAnswer × List ℕ} → SaysReadTree n start bytes limit ns o → reading ≡ o
+  pub no-second-answer : {o : Left} → SaysReadTree n start bytes limit ns o → reading ≡ o
   no-second-answer x = one-answer answer-says x
 
   -- ---- THE THEOREMS
@@ -175,9 +134,9 @@ module _ (n : ℕ) (fits : n ≤ 32) (limit : ℕ) (s : List ℕ) (start end : �
 
   -- what is read is spelled, and the store is its rendering
   pub read-is-spelled : (k : ℕ) (ms : List ℕ) → reading ≡ (IsTree k, ms) → (t : Tree) × Node n start bytes t × (depth t ≤ limit) × (nodes t ≤ lent ns) × (k ≡ nodes t) × (ms ≡ filled ns (treeBytes t))
-  read-is-spelled k ms q = to answer-says (ap (λ (o : TreeAnswer × List ℕ). o .0) q) (ap (λ (o : TreeAnswer × List ℕ). o .1) q)
+  read-is-spelled k ms q = to answer-says (ap (λ (o : Left). o .0) q) (ap (λ (o : Left). o .1) q)
     where
-      to : {o : TreeAnswer × List ℕ} → SaysReadTree n start bytes limit ns o → o .0 ≡ IsTree k → o .1 ≡ ms
+      to : {o : Left} → SaysReadTree n start bytes limit ns o → o .0 ≡ IsTree k → o .1 ≡ ms
           → (t : Tree) × Node n start bytes t × (depth t ≤ limit) × (nodes t ≤ lent ns) × (k ≡ nodes t) × (ms ≡ filled ns (treeBytes t))
       to (says-tree {t = t} x h l) q r = let e : k ≡ nodes t = cc in (t, x, h, l, e, sym r)
       to (says-too-deep d) q r = let z : _≡_ {A = ℕ} 0 1 = cc in absurd (omega arith)
@@ -186,13 +145,13 @@ module _ (n : ℕ) (fits : n ≤ 32) (limit : ℕ) (s : List ℕ) (start end : �
 
   pub tree-exactly-if-spelled-within : (k : ℕ) → (reading .0 ≡ IsTree k) ↔ SpellsTreeWithin n start bytes limit (lent ns) k
   tree-exactly-if-spelled-within k =
-      ((λ q. let (t, x, h, l, e, f) = read-is-spelled k (reading .1) (λ i. (q i, reading .1)) in (t, x, h, l, e)), (λ (t, x, h, l, e). ap (λ (o : TreeAnswer × List ℕ). o .0) (spelled-is-read t x h l) ∙ ap IsTree (sym e)))
+      ((λ q. let (t, x, h, l, e, f) = read-is-spelled k (reading .1) (λ i. (q i, reading .1)) in (t, x, h, l, e)), (λ (t, x, h, l, e). ap (λ (o : Left). o .0) (spelled-is-read t x h l) ∙ ap IsTree (sym e)))
 
   -- 9: where a node should begin one level too deep, and nothing else was met before
   pub too-deep-exactly : (reading .0 ≡ TooDeep) ↔ GoesTooDeep n bytes limit (lent ns)
-  too-deep-exactly = (to answer-says, (λ d. ap (λ (o : TreeAnswer × List ℕ). o .0) (no-second-answer (says-too-deep d))))
+  too-deep-exactly = (to answer-says, (λ d. ap (λ (o : Left). o .0) (no-second-answer (says-too-deep d))))
     where
-      to : {o : TreeAnswer × List ℕ} → SaysReadTree n start bytes limit ns o → o .0 ≡ TooDeep → GoesTooDeep n bytes limit (lent ns)
+      to : {o : Left} → SaysReadTree n start bytes limit ns o → o .0 ≡ TooDeep → GoesTooDeep n bytes limit (lent ns)
       to (says-too-deep d) q = d
       to (says-tree x h l) q = let z : _≡_ {A = ℕ} 0 1 = cc in absurd (omega arith)
       to (says-no-room f d) q = let z : _≡_ {A = ℕ} 0 1 = cc in absurd (omega arith)
@@ -200,18 +159,18 @@ module _ (n : ℕ) (fits : n ≤ 32) (limit : ℕ) (s : List ℕ) (start end : �
 
   -- 10: where a node should begin for which no room is lent, and nothing else was met before
   pub no-room-exactly : (reading .0 ≡ NoRoom) ↔ (UsesUp n bytes (lent ns) × ¬ GoesTooDeep n bytes limit (lent ns))
-  no-room-exactly = (to answer-says, (λ (f, d). ap (λ (o : TreeAnswer × List ℕ). o .0) (no-second-answer (says-no-room f d))))
+  no-room-exactly = (to answer-says, (λ (f, d). ap (λ (o : Left). o .0) (no-second-answer (says-no-room f d))))
     where
-      to : {o : TreeAnswer × List ℕ} → SaysReadTree n start bytes limit ns o → o .0 ≡ NoRoom → UsesUp n bytes (lent ns) × ¬ GoesTooDeep n bytes limit (lent ns)
+      to : {o : Left} → SaysReadTree n start bytes limit ns o → o .0 ≡ NoRoom → UsesUp n bytes (lent ns) × ¬ GoesTooDeep n bytes limit (lent ns)
       to (says-no-room f d) q = (f, d)
       to (says-too-deep d) q = let z : _≡_ {A = ℕ} 0 1 = cc in absurd (omega arith)
       to (says-tree x h l) q = let z : _≡_ {A = ℕ} 0 1 = cc in absurd (omega arith)
       to (says-malformed f d e) q = let z : _≡_ {A = ℕ} 0 1 = cc in absurd (omega arith)
 
   pub malformed-exactly : (reading .0 ≡ Malformed) ↔ ((¬ SpellsTree n start bytes) × (¬ GoesTooDeep n bytes limit (lent ns)) × (¬ UsesUp n bytes (lent ns)))
-  malformed-exactly = (to answer-says, (λ (f, d, e). ap (λ (o : TreeAnswer × List ℕ). o .0) (no-second-answer (says-malformed f d e))))
+  malformed-exactly = (to answer-says, (λ (f, d, e). ap (λ (o : Left). o .0) (no-second-answer (says-malformed f d e))))
     where
-      to : {o : TreeAnswer × List ℕ} → SaysReadTree n start bytes limit ns o → o .0 ≡ Malformed → (¬ SpellsTree n start bytes) × (¬ GoesTooDeep n bytes limit (lent ns)) × (¬ UsesUp n bytes (lent ns))
+      to : {o : Left} → SaysReadTree n start bytes limit ns o → o .0 ≡ Malformed → (¬ SpellsTree n start bytes) × (¬ GoesTooDeep n bytes limit (lent ns)) × (¬ UsesUp n bytes (lent ns))
       to (says-malformed f d e) q = (f, d, e)
       to (says-no-room f d) q = let z : _≡_ {A = ℕ} 0 1 = cc in absurd (omega arith)
       to (says-too-deep d) q = let z : _≡_ {A = ℕ} 0 1 = cc in absurd (omega arith)
@@ -221,7 +180,7 @@ module _ (n : ℕ) (fits : n ≤ 32) (limit : ℕ) (s : List ℕ) (start end : �
   pub zeroed-where-no-tree : ((k : ℕ) → ¬ (reading .0 ≡ IsTree k)) → reading .1 ≡ zeroed ns
   zeroed-where-no-tree f = to answer-says f
     where
-      to : {o : TreeAnswer × List ℕ} → SaysReadTree n start bytes limit ns o → ((k : ℕ) → ¬ (o .0 ≡ IsTree k)) → o .1 ≡ zeroed ns
+      to : {o : Left} → SaysReadTree n start bytes limit ns o → ((k : ℕ) → ¬ (o .0 ≡ IsTree k)) → o .1 ≡ zeroed ns
       to (says-tree {t = t} x h l) g = absurd (g (nodes t) refl)
       to (says-too-deep d) g = refl
       to (says-no-room e d) g = refl
@@ -247,7 +206,7 @@ module _ (n : ℕ) (fits : n ≤ 32) (limit : ℕ) (s : List ℕ) (start end : �
 
     pub tree-exactly-if-spelled : ((k : ℕ) × (reading .0 ≡ IsTree k)) ↔ SpellsTree n start bytes
     tree-exactly-if-spelled =
-        ((λ (k, q). let (t, x, h, l, e) = tree-exactly-if-spelled-within k .0 q in (t, x)), (λ (t, x). (nodes t, ap (λ (o : TreeAnswer × List ℕ). o .0) (stores-are-the-meaning t x))))
+        ((λ (k, q). let (t, x, h, l, e) = tree-exactly-if-spelled-within k .0 q in (t, x)), (λ (t, x). (nodes t, ap (λ (o : Left). o .0) (stores-are-the-meaning t x))))
 
     pub malformed-exactly-if-not-spelled : (reading .0 ≡ Malformed) ↔ (¬ SpellsTree n start bytes)
-    malformed-exactly-if-not-spelled = ((λ q. malformed-exactly .0 q .0), (λ f. ap (λ (o : TreeAnswer × List ℕ). o .0) (malformed-if-not-spelled f)))
+    malformed-exactly-if-not-spelled = ((λ q. malformed-exactly .0 q .0), (λ f. ap (λ (o : Left). o .0) (malformed-if-not-spelled f)))

@@ -15,7 +15,8 @@ use Rattle.grammar.specs.Reach.{depth-within, nodes-within}
 use Rattle.claims_entries.specs.Shown.{Addressable}
 use Rattle.claims_tree.specs.Place.{part}
 use Rattle.claims_tree.specs.Rendering.{treeBytes, filled}
-use Rattle.claims_tree.specs.Claims.{zeroed, lent, stores-are-the-meaning, deeper-is-too-deep, larger-has-no-room}
+use Rattle.claims_tree.specs.Said.{zeroed, lent}
+use Rattle.claims_tree.specs.Claims.{stores-are-the-meaning, deeper-is-too-deep, larger-has-no-room}
 
 -- "a", NUL, "-1", a space, "0" or "1", and a newline: an invalid node named a, with no subtree or with one
 abbrev head : ℕ → List ℕ
@@ -62,13 +63,13 @@ module _ (ns : List ℕ) (small : Addressable ns) where
   -- both premises hold, and the chain is read
   pub sixty-four-are-read : lent ns ≡ 64 → readTree 20 depthLimit (chain 63) 0 (length (chain 63)) ns ≡ (IsTree 64, filled ns (treeBytes (chainAt 0 63)))
   sixty-four-are-read room =
-      stores-are-the-meaning 20 (lit≤ tt) depthLimit (chain 63) 0 (length (chain 63)) ns (omega arith) (omega arith) (omega arith) small
+      stores-are-the-meaning 20 (lit≤ tt) depthLimit (chain 63) 0 (length (chain 63)) ns (record { ahead = omega arith; inside = omega arith }) (omega arith) small
       (depth-within 20 _ 0 (chainAt 0 63) (chain-there 63) depthLimit .1 (omega arith)) (nodes-within 20 _ 0 (chainAt 0 63) (chain-there 63) (lent ns) .1 (omega arith)) (chainAt 0 63) (chain-there 63)
 
   pub room-for-one-less : lent ns ≡ 63 → readTree 20 depthLimit (chain 63) 0 (length (chain 63)) ns ≡ (NoRoom, zeroed ns)
   room-for-one-less room =
-      larger-has-no-room 20 (lit≤ tt) depthLimit (chain 63) 0 (length (chain 63)) ns (omega arith) (omega arith) (omega arith) small (chainAt 0 63) (chain-there 63) (omega arith) (omega arith)
+      larger-has-no-room 20 (lit≤ tt) depthLimit (chain 63) 0 (length (chain 63)) ns (record { ahead = omega arith; inside = omega arith }) (omega arith) small (chainAt 0 63) (chain-there 63) (omega arith) (omega arith)
 
   pub one-level-deeper : lent ns ≡ 65 → readTree 20 depthLimit (chain 64) 0 (length (chain 64)) ns ≡ (TooDeep, zeroed ns)
   one-level-deeper room =
-      deeper-is-too-deep 20 (lit≤ tt) depthLimit (chain 64) 0 (length (chain 64)) ns (omega arith) (omega arith) (omega arith) small (chainAt 0 64) (chain-there 64) (omega arith) (omega arith)
+      deeper-is-too-deep 20 (lit≤ tt) depthLimit (chain 64) 0 (length (chain 64)) ns (record { ahead = omega arith; inside = omega arith }) (omega arith) small (chainAt 0 64) (chain-there 64) (omega arith) (omega arith)

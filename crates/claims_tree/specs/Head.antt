@@ -150,9 +150,10 @@ behind-complete {k} id {w} u s at end start stop word bytes l e =
     let l₂ : Lies s (at + 1 + length k) end (10 ∷ id) = lies-right k (10 ∷ id) l₁ in
     let a : at < end = omega (arith, l .fits) in
     let b : at + 1 + length k < end = omega (arith, l₂ .fits) in
-    let c : bytes ≤ end - (at + 1 + length k + 1) = omega (arith, l₂ .fits) in
-    (record { start = start; stop = stop; count = word; subtrees = w; id = at + 1 + length k + 1; next = at + 1 + length k + 1 + bytes },
-    rw (lt-leb end at a, lies-head l, unsigned-complete (u .digits) mostSubtrees (omega (arith, u .fits)) 10 (omega arith) id l₁, lt-leb end (at + 1 + length k) b, lies-head l₂, le-ltb (end - (at + 1 + length k + 1)) bytes c))
+    let c : bytes ≤ end - (at + 1 + length k + 1) = omega (arith, l₂ .fits) in (
+      record { start = start; stop = stop; count = word; subtrees = w; id = at + 1 + length k + 1; next = at + 1 + length k + 1 + bytes },
+      rw (lt-leb end at a, lies-head l, unsigned-complete (u .digits) mostSubtrees (omega (arith, u .fits)) 10 (omega arith) id l₁, lt-leb end (at + 1 + length k) b, lies-head l₂, le-ltb (end - (at + 1 + length k + 1)) bytes c),
+    )
 
 module _ (n : ℕ) (s : List ℕ) (at end : ℕ) (inside : end ≤ length s) where
   head-complete : {h : List ℕ} {v : Head} → NodeHead n h v → Lies s at end h → (m : Fields) × (headAt n s at end ≡ Is m)

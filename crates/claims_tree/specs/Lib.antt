@@ -6,5 +6,6 @@ pub mod Head
 pub mod Siblings
 pub mod Steps
 pub mod Walk
+pub mod Said
 pub mod Claims
 pub mod Example

@@ -116,7 +116,6 @@ abbrev pub Later : ℕ → ℕ → List ℕ → ℕ → List ℕ → ℕ → ℕ
 Later n p b l y = ComesAmong n (p + length b) l y
 
 module _ {n p : ℕ} (l : ℕ) {x b : List ℕ} (y : List ℕ) {t : Tree} (u : Node n p b t) (i : x ≡ b ++ y) where
-
   parted : {e k : ℕ} → ComesAmong n p (suc l) x e k → Parted (Comes n p x) (Later n p b l y) (nodes t) e k
   parted (in-this c) = in-it c
   parted (past {k = k} {b = b₂} {c = c₂} {t = t₂} u₂ j c f) =
