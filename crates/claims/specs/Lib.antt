@@ -3,3 +3,4 @@ pub mod Premises
 pub mod Header
 pub mod Said
 pub mod Reading
+pub mod Claims

@@ -37,6 +37,7 @@ use Rattle.claims_entries.specs.Claims as entries
 use Rattle.claims_extension.specs.Said as ext
 use Rattle.claims_extension.specs.Claims as extensions
 use Rattle.claims_extension.specs.Body.{BodyAt}
+use Rattle.claims_tree.specs.Said as tree
 use Rattle.claims_tree.specs.Claims as trees
 use Rattle.claims.specs.Premises.{idLength, depthLimit, Slices, GoodTrailer}
 use Rattle.claims.specs.Header.{trailer-exactly, says-short, says-no-signature, says-other-version, says-opens, SaysHeader, header-says, one-header}
@@ -126,19 +127,19 @@ module _ (s rs ps ns : List ℕ) (slices : Slices s ps ns) where
       at-its-place : BodyAt s end place body
       at-its-place = extensions.body-is-the-bytes s (slices .bytes) next end ahead inside es (subst (λ (z : List ℕ). Extensions z es) (sym behind) x) place body l
 
-      tree-is : {p : TreeAnswer × List ℕ} → trees.SaysTree idLength place body depthLimit ns p → readTree 20 64 s place (place + length body) ns ≡ p
+      tree-is : {p : TreeAnswer × List ℕ} → tree.SaysReadTree idLength place body depthLimit ns p → readTree 20 64 s place (place + length body) ns ≡ p
       tree-is {p} y =
-          trees.no-second-answer 20 (lit≤ tt) 64 s place (place + length body) ns (omega arith) (omega (arith, at-its-place .fits)) (slices .file) (slices .nodes)
-          (subst (λ (z : List ℕ). trees.SaysTree idLength place z depthLimit ns p) (sym (at-its-place .is)) y)
+          trees.no-second-answer 20 (lit≤ tt) 64 s place (place + length body) ns (omega (arith, at-its-place .fits)) (slices .file) (slices .nodes)
+          (subst (λ (z : List ℕ). tree.SaysReadTree idLength place z depthLimit ns p) (sym (at-its-place .is)) y)
 
-      tree-says : trees.SaysTree idLength place body depthLimit ns (readTree 20 64 s place (place + length body) ns)
+      tree-says : tree.SaysReadTree idLength place body depthLimit ns (readTree 20 64 s place (place + length body) ns)
       tree-says =
-          subst (λ (z : List ℕ). trees.SaysTree idLength place z depthLimit ns (readTree 20 64 s place (place + length body) ns)) (at-its-place .is)
-          (trees.answer-says 20 (lit≤ tt) 64 s place (place + length body) ns (omega arith) (omega (arith, at-its-place .fits)) (slices .file) (slices .nodes))
+          subst (λ (z : List ℕ). tree.SaysReadTree idLength place z depthLimit ns (readTree 20 64 s place (place + length body) ns)) (at-its-place .is)
+          (trees.answer-says 20 (lit≤ tt) 64 s place (place + length body) ns (omega (arith, at-its-place .fits)) (slices .file) (slices .nodes))
 
   -- the last TREE, read
   tree-read : said.Opened s → {b c : List ℕ} {ms : List Meaning} {es : List Ext} {sparse : Bool} {place : ℕ} {body : List ℕ} → (w : said.WithTree s rs ps ns b c ms es sparse place body)
-      → {p : TreeAnswer × List ℕ} → trees.SaysTree idLength place body depthLimit ns p
+      → {p : TreeAnswer × List ℕ} → tree.SaysReadTree idLength place body depthLimit ns p
       → reading ≡ withNodes (entry.filled rs (recordsBytes idLength 0 ms)) (entry.filled ps (pathsBytes ms)) (grownInto (record { version = versionOf s; sparse = sparse; records = countOf s; used = length (pathsBytes ms) }) p)
   tree-read o {ms = ms} w y =
       let (mark, e, q) = filled-walk o (w .entries) (w .extensions) (w .mark) (ext.says-lies (w .last)) in
@@ -160,21 +161,21 @@ module _ (s rs ps ns : List ℕ) (slices : Slices s ps ns) where
   no-second-answer (said.says-no-TREE o {ms = ms} a x t n) =
       let (mark, e, q) = filled-walk o a x t (ext.says-missing n) in
       all-read o a e ∙ (λ i. said.holding s rs ps ns ms (said.readAs s rs ps ns (q i) false ms 0))
-  no-second-answer (said.says-tree o w x h k) = tree-read o w (trees.says-tree x h k)
-  no-second-answer (said.says-malformed o w f d e) = tree-read o w (trees.says-malformed f d e)
-  no-second-answer (said.says-too-deep o w d) = tree-read o w (trees.says-too-deep d)
-  no-second-answer (said.says-no-node-room o w f d) = tree-read o w (trees.says-no-room f d)
+  no-second-answer (said.says-tree o w x h k) = tree-read o w (tree.says-tree x h k)
+  no-second-answer (said.says-malformed o w f d e) = tree-read o w (tree.says-malformed f d e)
+  no-second-answer (said.says-too-deep o w d) = tree-read o w (tree.says-too-deep d)
+  no-second-answer (said.says-no-node-room o w f d) = tree-read o w (tree.says-no-room f d)
 
   -- ---- there is an answer of which its rule holds
   abbrev Some : Type 0
   Some = (o : Outcome) × said.SaysFile s rs ps ns o
 
   some-tree : said.Opened s → {b c : List ℕ} {ms : List Meaning} {es : List Ext} {sparse : Bool} {place : ℕ} {body : List ℕ} → said.WithTree s rs ps ns b c ms es sparse place body
-      → {p : TreeAnswer × List ℕ} → trees.SaysTree idLength place body depthLimit ns p → Some
-  some-tree o w (trees.says-tree x h k) = (_, said.says-tree o w x h k)
-  some-tree o w (trees.says-too-deep d) = (_, said.says-too-deep o w d)
-  some-tree o w (trees.says-no-room f d) = (_, said.says-no-node-room o w f d)
-  some-tree o w (trees.says-malformed f d e) = (_, said.says-malformed o w f d e)
+      → {p : TreeAnswer × List ℕ} → tree.SaysReadTree idLength place body depthLimit ns p → Some
+  some-tree o w (tree.says-tree x h k) = (_, said.says-tree o w x h k)
+  some-tree o w (tree.says-too-deep d) = (_, said.says-too-deep o w d)
+  some-tree o w (tree.says-no-room f d) = (_, said.says-no-node-room o w f d)
+  some-tree o w (tree.says-malformed f d e) = (_, said.says-malformed o w f d e)
 
   some-extensions : said.Opened s → {b c : List ℕ} {ms : List Meaning} → said.AllEntries s rs ps ns b c ms → {w : Walked} → ext.SaysExtensions (headerLength + length b) c w → Some
   some-extensions o a (ext.says-not-filled f) = (_, said.says-not-filled o a f)

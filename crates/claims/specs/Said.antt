@@ -18,7 +18,7 @@ use Rattle.grammar.specs.Fault.{stray, refused, Faulty}
 use Rattle.claims_entries.specs.Rendering.{recordsBytes, pathsBytes}
 use Rattle.claims_entries.specs.Said.{filled, after, Fits, Lacks}
 use Rattle.claims_tree.specs.Rendering.{treeBytes}
-use Rattle.claims_tree.specs.Claims.{zeroed, lent, GoesTooDeep, UsesUp, SpellsTree}
+use Rattle.claims_tree.specs.Said.{zeroed, lent, GoesTooDeep, UsesUp, SpellsTree}
 use Rattle.claims.specs.Premises.{idLength, depthLimit, GoodTrailer}
 
 -- header and trailer are as they must be: none of 1 to 4
