@@ -133,11 +133,11 @@ fn good_trailer(file: &[u8]) -> bool
 }
 
 // What was read of header and entries, before the extensions.
-struct Entries {
-    version: u32,
-    sparse: bool,
-    records: usize,
-    used: usize,
+pub struct Entries {
+    pub version: u32,
+    pub sparse: bool,
+    pub records: usize,
+    pub used: usize,
 }
 
 // What was read, with the mark that `sdir` gives.

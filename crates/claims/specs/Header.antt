@@ -1,0 +1,122 @@
+-- The header and the trailer: what `headerAt` and `goodTrailer`, which the reader's contract cites, say in the grammar's terms. Assumes that the file is bytes.
+use Prim.Native.Nat.{ℕ, _+_, _≤_, _<_}
+use mathlib.Core.Path.{_≡_, refl, sym, ap, _∙_}
+use mathlib.Core.Bool.{Bool, true, false}
+use mathlib.Core.List.{List}
+use mathlib.Core.Logic.{_↔_, ⊎-elim}
+use native.Mathlib.Omega.{arith}
+use lib.Dec.{ltb, eqb}
+use lib.ListN.{length, take, drop, take-append-drop}
+use lib.Seq.{length-take-le}
+use Rattle.laws.specs.Pick.{pick}
+use Rattle.laws.specs.Tests.{lt-or-ge, Less, less, not-less, less?, Same, same, differs, same?}
+use Rattle.wire.specs.BigEndian.{beAt}
+use Rattle.decode.specs.Header.{signature, onVersion, headerAt}
+use Rattle.decode.specs.declared.header.Header.{Header as Opening}
+use Rattle.decode.specs.declared.header.Header.the-variants.{Opens, ShortFile, NoSignature, OtherVersion}
+use Rattle.file.specs.Trailer.{goodTrailer, Good, good-exactly}
+use Rattle.file.specs.Trailer as trailers
+use Rattle.grammar.specs.Number.{bigEndian}
+use Rattle.grammar.specs.File.{DIRC, headerLength, Supported, versionOf, countOf, GoodHeader}
+use Rattle.claims_entries.specs.Parts.{be-is}
+use Rattle.claims_extension.specs.Words.{Bytes, bytes-left, allBytes, bytes-if, FourBytes, signature-injective}
+use Rattle.claims.specs.Premises.{idLength, GoodTrailer, zeros, hashed}
+
+-- ---- the trailer
+
+pub trailer-exactly : (s : List ℕ) → (goodTrailer 20 s ≡ true) ↔ GoodTrailer s
+trailer-exactly s = ((λ e. to (good-exactly s .0 e)), (λ g. good-exactly s .1 (from g)))
+  where
+    to : Good s → GoodTrailer s
+    to (trailers.zeros e) = zeros e
+    to (trailers.hashed e) = hashed e
+
+    from : GoodTrailer s → Good s
+    from (zeros e) = trailers.zeros e
+    from (hashed e) = trailers.hashed e
+
+-- ---- the header
+
+-- what each answer says
+pub data SaysHeader (s : List ℕ) : Opening → Type 0 where
+  -- 1
+  says-short : length s < headerLength + idLength → SaysHeader s ShortFile
+  -- 2
+  says-no-signature : headerLength + idLength ≤ length s → (take 4 s ≡ DIRC → ⊥) → SaysHeader s NoSignature
+  -- 3
+  says-other-version : headerLength + idLength ≤ length s → take 4 s ≡ DIRC → (Supported (versionOf s) → ⊥) → SaysHeader s (OtherVersion (versionOf s))
+  says-opens : GoodHeader idLength s → SaysHeader s (Opens (versionOf s) (countOf s))
+
+-- "DIRC" as bytes
+dirc-bytes : FourBytes DIRC
+unfolding allBytes
+dirc-bytes = record { four = refl; small = bytes-if DIRC refl }
+
+module _ (s : List ℕ) (bytes : Bytes s) where
+  first-four : 4 ≤ length s → FourBytes (take 4 s)
+  first-four h = record { four = length-take-le 4 s h; small = bytes-left (take 4 s) (drop 4 s) (rw (take-append-drop 4 s) bytes) }
+
+  signed : 4 ≤ length s → beAt 4 s 0 ≡ signature → take 4 s ≡ DIRC
+  signed h e = signature-injective (first-four h) dirc-bytes (be-is 4 s 0 h ∙ e)
+
+  unsigned : 4 ≤ length s → (beAt 4 s 0 ≡ signature → ⊥) → take 4 s ≡ DIRC → ⊥
+  unsigned h d e = d (sym (be-is 4 s 0 h) ∙ ap bigEndian e)
+
+  version-says : headerLength + idLength ≤ length s → take 4 s ≡ DIRC → SaysHeader s (onVersion (versionOf s) (countOf s))
+  unfolding onVersion
+  version-says h d = two (same? (versionOf s) 2)
+    where
+      opens : 2 ≤ versionOf s → versionOf s ≤ 4 → SaysHeader s (Opens (versionOf s) (countOf s))
+      opens a b = says-opens (record { long = h; signature = d; version = record { oldest = a; newest = b } })
+
+      four : {t : Bool} → (versionOf s ≡ 2 → ⊥) → (versionOf s ≡ 3 → ⊥) → Same (versionOf s) 4 t → SaysHeader s (pick t (Opens (versionOf s) (countOf s)) (OtherVersion (versionOf s)))
+      four a b (same e) = opens (omega arith) (omega arith)
+      four a b (differs c) = says-other-version h d (λ x. none (x .oldest) (x .newest) a b c)
+        where
+          none : 2 ≤ versionOf s → versionOf s ≤ 4 → (versionOf s ≡ 2 → ⊥) → (versionOf s ≡ 3 → ⊥) → (versionOf s ≡ 4 → ⊥) → ⊥
+          none p q x y z = ⊎-elim (λ (l : versionOf s < 3). x (omega arith)) (λ (l : 3 ≤ versionOf s). ⊎-elim (λ (m : versionOf s < 4). y (omega arith)) (λ (m : 4 ≤ versionOf s). z (omega arith)) (lt-or-ge (versionOf s) 4)) (lt-or-ge (versionOf s) 3)
+
+      three : {t : Bool} → (versionOf s ≡ 2 → ⊥) → Same (versionOf s) 3 t
+          → SaysHeader s (pick t (Opens (versionOf s) (countOf s)) (pick (eqb (versionOf s) 4) (Opens (versionOf s) (countOf s)) (OtherVersion (versionOf s))))
+      three a (same e) = opens (omega arith) (omega arith)
+      three a (differs b) = four a b (same? (versionOf s) 4)
+
+      two : {t : Bool} → Same (versionOf s) 2 t
+          → SaysHeader s (pick t (Opens (versionOf s) (countOf s)) (pick (eqb (versionOf s) 3) (Opens (versionOf s) (countOf s)) (pick (eqb (versionOf s) 4) (Opens (versionOf s) (countOf s)) (OtherVersion (versionOf s)))))
+      two (same e) = opens (omega arith) (omega arith)
+      two (differs a) = three a (same? (versionOf s) 3)
+
+  -- of the answer that is given its rule holds
+  pub header-says : SaysHeader s (headerAt 20 s)
+  unfolding headerAt
+  header-says = long (less? (length s) (headerLength + idLength))
+    where
+      named : headerLength + idLength ≤ length s → {t : Bool} → Same (beAt 4 s 0) signature t → SaysHeader s (pick t (onVersion (beAt 4 s 4) (beAt 4 s 8)) NoSignature)
+      named h (same e) =
+          let v : versionOf s ≡ beAt 4 s 4 = be-is 4 s 4 (omega arith) in
+          let c : countOf s ≡ beAt 4 s 8 = be-is 4 s 8 (omega arith) in
+          rw (← v, ← c) (version-says h (signed (omega arith) e))
+      named h (differs d) = says-no-signature h (unsigned (omega arith) d)
+
+      long : {t : Bool} → Less (length s) (headerLength + idLength) t → SaysHeader s (pick t ShortFile (pick (eqb (beAt 4 s 0) signature) (onVersion (beAt 4 s 4) (beAt 4 s 8)) NoSignature))
+      long (less h) = says-short h
+      long (not-less h) = named h (same? (beAt 4 s 0) signature)
+
+-- the rules leave one answer at most
+pub one-header : {s : List ℕ} {a b : Opening} → SaysHeader s a → SaysHeader s b → a ≡ b
+one-header (says-short h) (says-short k) = refl
+one-header (says-short h) (says-no-signature k d) = absurd (omega arith)
+one-header (says-short h) (says-other-version k d e) = absurd (omega arith)
+one-header (says-short h) (says-opens g) = absurd (omega (arith, g .long))
+one-header (says-no-signature h d) (says-short k) = absurd (omega arith)
+one-header (says-no-signature h d) (says-no-signature k e) = refl
+one-header (says-no-signature h d) (says-other-version k e f) = absurd (d e)
+one-header (says-no-signature h d) (says-opens g) = absurd (d (g .signature))
+one-header (says-other-version h d e) (says-short k) = absurd (omega arith)
+one-header (says-other-version h d e) (says-no-signature k f) = absurd (f d)
+one-header (says-other-version h d e) (says-other-version k f g) = refl
+one-header (says-other-version h d e) (says-opens g) = absurd (e (g .version))
+one-header (says-opens g) (says-short k) = absurd (omega (arith, g .long))
+one-header (says-opens g) (says-no-signature k d) = absurd (d (g .signature))
+one-header (says-opens g) (says-other-version k d e) = absurd (e (g .version))
+one-header (says-opens g) (says-opens h) = refl
