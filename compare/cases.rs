@@ -156,9 +156,13 @@ impl Judge {
     }
     /// Compares the library with 01's rules and, where there is an answer of the Rust, with that.
     pub fn judge(&mut self, case: &Case, said: Option<&str>) {
-        let ended = std::panic::catch_unwind(std::panic::AssertUnwindSafe(|| self.compare(case, said)));
+        self.guarded(|j| j.compare(case, said), || case.line());
+    }
+    /// An assertion on the way (a value beside those lent was written, an unused one is not 0) is a failure of this input too.
+    fn guarded(&mut self, run: impl FnOnce(&mut Judge), input: impl Fn() -> String) {
+        let ended = std::panic::catch_unwind(std::panic::AssertUnwindSafe(|| run(self)));
         if ended.is_err() {
-            self.fail("an assertion above", &case.line(), "", "");
+            self.fail("an assertion, see above", &input(), "", "");
         }
     }
     fn compare(&mut self, case: &Case, said: Option<&str>) {
@@ -312,14 +316,16 @@ impl Judge {
         }
         for rooms in &all {
             let rule = model::ours(s, *rooms).reading;
-            if self.read(s, *rooms, &rule).is_some() {
-                self.alike += 1;
-            }
+            let compare = |j: &mut Judge| j.alike += j.read(s, *rooms, &rule).is_some() as usize;
+            self.guarded(compare, || hex(s));
         }
         all.len()
     }
     /// D14, 11 and 12: a path outside the store, and a stage above 3. The Rust panics on the one and cannot be asked the other.
     pub fn outside(&mut self, t: &[Entry], bad: usize, path: &[u8], asked: u32, far: u64) {
+        self.guarded(|j| j.compare_outside(t, bad, path, asked, far), || table_text(t));
+    }
+    fn compare_outside(&mut self, t: &[Entry], bad: usize, path: &[u8], asked: u32, far: u64) {
         let (mut records, paths) = stores_of(t);
         let at = bad * RECORD;
         let past = (paths.len() as u64).saturating_add(far.saturating_add(1));
