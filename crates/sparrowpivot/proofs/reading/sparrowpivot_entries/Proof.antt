@@ -1,8 +1,8 @@
--- `sparrowpivot::sparrowpivot_entries` meets its contract. Assumes nothing.
+-- `sparrowpivot::reading::sparrowpivot_entries` meets its contract. Assumes nothing.
+use Rattle.sparrowpivot.specs.Laws.{laws}
 use borrow.Author.Needs.{needs}
-use Rattle.sparrowpivot.specs.Told.{laws}
-use Rattle.sparrowpivot.proofs.sparrowpivot_entries.Statement.{statement}
-use Rattle.sparrowpivot.proofs.sparrowpivot_entries.Tie as tie
+use Rattle.sparrowpivot.proofs.reading.sparrowpivot_entries.Statement.{statement}
+use Rattle.sparrowpivot.proofs.reading.sparrowpivot_entries.Tie as tie
 
 before-trailer-requires : tie.Need-before-trailer-requires
 before-trailer-requires c κs = search (laws, needs)
