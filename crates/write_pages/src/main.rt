@@ -1,4 +1,6 @@
 // Pages of the writer: 01's TREE of 32 bytes, read and written back, and the differences D10 to D13 from the Rust.
+ghost use mathlib.Core.Path.{_≡_};
+ghost use lib.ListN.{length};
 use libc::STDOUT_FILENO;
 use node::Node;
 use write::Answer;
@@ -17,6 +19,11 @@ fn show_hex(s: &[u8]) {
         io::print_hex(STDOUT_FILENO, wide(s[i]), 2);
         i += 1;
     }
+}
+
+// A line of bytes in hexadecimal digits.
+fn show_line(s: &[u8]) {
+    show_hex(s);
     io::write_all(STDOUT_FILENO, b"\n");
 }
 
@@ -89,10 +96,10 @@ fn tree_page() {
     let file = *b"\x002 1\nAAAAAAAAAAAAAAAAAAAAa\0-1 0\n";
     let mut nodes = [0u8; 144];
     let mut out = [255u8; 33];
-    show_hex(&file);
+    show_line(&file);
     tree::read_tree(&file, 0, 32, &mut nodes);
     tree_write::put_tree(&nodes, &file, &mut out, 0);
-    show_hex(&out);
+    show_line(&out);
 }
 
 // A table of no records with the tree of a node table, and what was written.
@@ -102,7 +109,7 @@ fn write_tree(nodes: &[u8]) {
     let mut out = [255u8; 128];
     let a = write::write_to(&none, &none, nodes, &names, only_tree(true), &mut out);
     show_answer(a);
-    show_hex(&out);
+    show_line(&out);
 }
 
 // D10: children b, a are written a, b.
@@ -136,11 +143,30 @@ fn plain_entry() -> [u8; 60] {
     e
 }
 
+// Room for the file of two long paths.
+fn room() -> [u8; 8352]
+    ensures { λ r. ⌜ 8352 ≡ length r ⌝ }
+{
+    [255; 8352]
+}
+
+// Two long paths: the file, of which the second entry's head is shown, and an output that is too short.
+fn write_long(records: &[u8], paths: &[u8]) {
+    let none = [0u8; 0];
+    let mut out = room();
+    let a = write::write_to(records, paths, &none, &none, only_tree(false), &mut out);
+    show_answer(a);
+    show_line(&out[4168..4236]);
+    let mut short = [255u8; 8];
+    let b = write::write_to(records, paths, &none, &none, only_tree(false), &mut short);
+    show_answer(b);
+    show_line(&short);
+}
+
 // D12: a path of 4095 bytes and another entry behind it, whose first bytes stand 4160 bytes behind the first's. D13: the mode ffffffff is written as it stands.
 fn long_page() {
     let e = plain_entry();
     let paths = [97u8; 4096];
-    let none = [0u8; 0];
     let mut records = [0u8; 192];
     entry::put_record(&e, 0, 0, 0, 4095, &mut records, 0);
     entry::put_record(&e, 0, 0, 0, 4096, &mut records, 1);
@@ -148,14 +174,7 @@ fn long_page() {
     records[121] = 255;
     records[122] = 255;
     records[123] = 255;
-    let mut out = [255u8; 8352];
-    let a = write::write_to(&records, &paths, &none, &none, only_tree(false), &mut out);
-    show_answer(a);
-    show_hex(&out[4168..4236]);
-    let mut short = [255u8; 8];
-    let b = write::write_to(&records, &paths, &none, &none, only_tree(false), &mut short);
-    show_answer(b);
-    show_hex(&short);
+    write_long(&records, &paths);
 }
 
 fn main() {
