@@ -1,0 +1,24 @@
+-- `tree_write::proper::is_proper` meets its contract. Every need follows from the laws of the definitions. Assumes nothing.
+use Rattle.tree_write.proofs.Fits.{fits}
+use borrow.Author.Needs.{needs}
+use Rattle.tree_write.proofs.proper.is_proper.Statement.{statement}
+use Rattle.tree_write.proofs.proper.is_proper.Tie as tie
+
+returns : tie.Need-returns
+returns c = search (fits, needs)
+
+nodes-fit-requires : tie.Need-nodes-fit-requires
+nodes-fit-requires c κs = search (fits, needs)
+
+all-kids-fit-requires : tie.Need-all-kids-fit-requires
+all-kids-fit-requires c κs = search (fits, needs)
+
+returns-2 : tie.Need-returns-2
+returns-2 c = search (fits, needs)
+
+returns-3 : tie.Need-returns-3
+returns-3 c = search (fits, needs)
+
+pub is-proper-spec : {M : Type 1} → statement M
+is-proper-spec =
+    tie.close (tie.spec returns nodes-fit-requires all-kids-fit-requires returns-2 returns-3)

@@ -1,0 +1,24 @@
+-- `tree_write::proper::name_fits` meets its contract. Every need follows from the laws of the definitions. Assumes nothing.
+use Rattle.tree_write.proofs.Fits.{fits}
+use borrow.Author.Needs.{needs}
+use Rattle.tree_write.proofs.proper.name_fits.Statement.{statement}
+use Rattle.tree_write.proofs.proper.name_fits.Tie as tie
+
+name-inside-requires : tie.Need-name-inside-requires
+name-inside-requires c κs = search (fits, needs)
+
+name-requires : tie.Need-name-requires
+name-requires c κs = search (fits, needs)
+
+holds-none-requires : tie.Need-holds-none-requires
+holds-none-requires c κs = search (fits, needs)
+
+returns : tie.Need-returns
+returns c = search (fits, needs)
+
+returns-2 : tie.Need-returns-2
+returns-2 c = search (fits, needs)
+
+pub name-fits-spec : {M : Type 1} → statement M
+name-fits-spec =
+    tie.close (tie.spec name-inside-requires name-requires holds-none-requires returns returns-2)

@@ -1,0 +1,42 @@
+-- `tree_write::proper::node_fits` meets its contract. Every need follows from the laws of the definitions. Assumes nothing.
+use Rattle.tree_write.proofs.Fits.{fits}
+use borrow.Author.Needs.{needs}
+use Rattle.tree_write.proofs.proper.node_fits.Statement.{statement}
+use Rattle.tree_write.proofs.proper.node_fits.Tie as tie
+
+parent-fits-requires : tie.Need-parent-fits-requires
+parent-fits-requires c κs = search (fits, needs)
+
+count-fits-requires : tie.Need-count-fits-requires
+count-fits-requires c κs = search (fits, needs)
+
+name-fits-requires : tie.Need-name-fits-requires
+name-fits-requires c κs = search (fits, needs)
+
+climbs-requires : tie.Need-climbs-requires
+climbs-requires c κs = search (fits, needs)
+
+returns : tie.Need-returns
+returns c = search (fits, needs)
+
+returns-2 : tie.Need-returns-2
+returns-2 c = search (fits, needs)
+
+returns-3 : tie.Need-returns-3
+returns-3 c = search (fits, needs)
+
+returns-4 : tie.Need-returns-4
+returns-4 c = search (fits, needs)
+
+pub node-fits-spec : {M : Type 1} → statement M
+node-fits-spec =
+    tie.close
+    (tie.spec
+    parent-fits-requires
+    count-fits-requires
+    name-fits-requires
+    climbs-requires
+    returns
+    returns-2
+    returns-3
+    returns-4)

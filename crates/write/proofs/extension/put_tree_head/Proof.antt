@@ -1,0 +1,20 @@
+-- `write::extension::put_tree_head` meets its contract. Every need follows from the laws of the definitions. Assumes nothing.
+use Rattle.write.proofs.Laws.{parts}
+use borrow.Author.Needs.{needs}
+use Rattle.write.proofs.extension.put_tree_head.Statement.{statement}
+use Rattle.write.proofs.extension.put_tree_head.Tie as tie
+
+put-head-requires : tie.Need-put-head-requires
+put-head-requires c κs = search (parts, needs)
+
+same-length : tie.Need-same-length
+same-length c = search (parts, needs)
+
+returns : tie.Need-returns
+returns c = search (parts, needs)
+
+returns-2 : tie.Need-returns-2
+returns-2 c = search (parts, needs)
+
+pub put-tree-head-spec : {M : Type 1} → statement M
+put-tree-head-spec = tie.close (tie.spec put-head-requires same-length returns returns-2)

@@ -1,0 +1,14 @@
+-- `write::head_size` meets its contract. Every need follows from the laws of the definitions. Assumes nothing.
+use borrow.Author.Needs.{needs}
+use Rattle.write.proofs.Whole.{whole}
+use Rattle.write.proofs.head_size.Statement.{statement}
+use Rattle.write.proofs.head_size.Tie as tie
+
+returns : tie.Need-returns
+returns c = search (whole, needs)
+
+returns-2 : tie.Need-returns-2
+returns-2 c = search (whole, needs)
+
+pub head-size-spec : {M : Type 1} → statement M
+head-size-spec = tie.close (tie.spec returns returns-2)

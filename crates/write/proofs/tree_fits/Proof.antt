@@ -1,0 +1,17 @@
+-- `write::tree_fits` meets its contract. Every need follows from the laws of the definitions. Assumes nothing.
+use Rattle.write.proofs.Whole.{whole}
+use borrow.Author.Needs.{needs}
+use Rattle.write.proofs.tree_fits.Statement.{statement}
+use Rattle.write.proofs.tree_fits.Tie as tie
+
+is-proper-requires : tie.Need-is-proper-requires
+is-proper-requires c κs = search (whole, needs)
+
+returns : tie.Need-returns
+returns c = search (whole, needs)
+
+returns-2 : tie.Need-returns-2
+returns-2 c = search (whole, needs)
+
+pub tree-fits-spec : {M : Type 1} → statement M
+tree-fits-spec = tie.close (tie.spec is-proper-requires returns returns-2)
