@@ -1,0 +1,2 @@
+// A whole index file, written into a lent output.
+mod entries;
