@@ -7,18 +7,21 @@ use native.Mathlib.Nat.{sub-zero}
 use native.Mathlib.Omega.{arith}
 use lib.Dec.{ltb}
 use lib.ListN.{length, take, drop, replicate, length-append, length-replicate, drop-of-length-le}
-use lib.Seq.{paste, take-at, take-all, length-take-le}
+use lib.Seq.{paste, length-paste, take-at, take-all, length-take-le}
 use borrow.Author.Tests.{lt-ltb, le-ltb, ltb-true}
 use Rattle.laws.specs.Pick.{pick}
 use Rattle.laws.specs.Paste.{paste-take, paste-then}
-use Rattle.laws.specs.Put.{put, put-none, put-put, length-put, paste-put}
+use Rattle.laws.specs.Put.{put, put-none, put-front, put-put, length-put, paste-put}
 use Rattle.wire.specs.BigEndian.{bytesOf, length-bytes}
+use Rattle.sha1.specs.Sha1.{sha1}
 use Rattle.sums.specs.Cap.{cap}
 use Rattle.entry.specs.Flags.{bit, extended, removed, toStorage, extendedToStorage}
 use Rattle.entry.specs.Record.{recordsIn, flagsAt, liesInside, pathAt}
 use Rattle.write.specs.declared.entries.Sized.{Sized}
 use Rattle.write.specs.declared.entries.Sized.the-variants.{Of, Outside}
 use Rattle.write.specs.Entries.{isGone, faultOf, stated, fixedOf, frontAt, flagBytes, padOf, wholeOf, entryOf, recordBytes, beforeAt, entriesBytes, tableBytes, keptOf, versionWith, sizeRun, sizeTable}
+use Rattle.write.specs.File.{extensionHead, treeSignature, sparseSignature, eoieSignature, treeHead, sparsePart, contents, eoiePart, trailerOf}
+use Rattle.write.specs.Hash.{length-sha1}
 use Rattle.write.specs.Size.{length-front, length-flags, length-entry}
 
 -- ---- one record
@@ -317,5 +320,174 @@ module _ (rs ps : List ℕ) (n version count size i : ℕ) (inv : Sizing rs ps n
           few = omega (arith, inv .few, kept-small rs i kept ek);
           run = size-more rs ps n i version count size (sizeRun 20 rs ps n 0 2 0 12) (inv .run) more t e h flags version₁ kept one size₁ ef ev ek eo es;
         }
+
+-- ---- an extension's head
+
+pub length-head : (signature : List ℕ) (size : ℕ) → length signature ≡ 4 → length (extensionHead signature size) ≡ 8
+unfolding extensionHead
+length-head signature size l = length-append signature (bytesOf 4 size) ∙ omega (arith, length-bytes 4 size)
+
+pub head-put : (d d₁ d₂ signature : List ℕ) (k size : ℕ) → length signature ≡ 4 → k + 8 ≤ length d → d₁ ≡ paste d k signature 4 → d₂ ≡ paste d₁ (k + 4) (bytesOf 4 size) 4 → d₂ ≡ put d k (extensionHead signature size)
+unfolding extensionHead
+head-put d d₁ d₂ signature k size l room e₁ e₂ =
+    let q₁ : d₁ ≡ put d k signature = e₁ ∙ paste-put d signature k 4 (sym l) in
+    let p : k + 4 ≡ k + length signature = omega arith in
+    e₂ ∙ paste-put d₁ (bytesOf 4 size) (k + 4) 4 (sym (length-bytes 4 size)) ∙ (λ j. put (q₁ j) (p j) (bytesOf 4 size)) ∙ put-put d signature (bytesOf 4 size) k (omega arith)
+
+-- ---- parts that are there or not
+
+module _ (sparse : Bool) where
+  pub sparse-room : sparse ≡ true → (k m : ℕ) → k + length (sparsePart sparse) ≤ m → k + 8 ≤ m
+  unfolding sparsePart
+  sparse-room h k m r = let l : length (sparsePart sparse) ≡ 8 = rw h (length-head sparseSignature 0 refl) in omega arith
+
+  pub sparse-next : sparse ≡ true → (k r : ℕ) → r ≡ k + 8 → r ≡ k + length (sparsePart sparse)
+  unfolding sparsePart
+  sparse-next h k r e = let l : length (sparsePart sparse) ≡ 8 = rw h (length-head sparseSignature 0 refl) in omega arith
+
+  pub sparse-put : sparse ≡ true → (d d₁ : List ℕ) (k : ℕ) → d₁ ≡ put d k (extensionHead sparseSignature 0) → d₁ ≡ put d k (sparsePart sparse)
+  unfolding sparsePart
+  sparse-put h d d₁ k e = rw h e
+
+  pub sparse-none : sparse ≡ false → (k : ℕ) → k ≡ k + length (sparsePart sparse)
+  unfolding sparsePart
+  sparse-none h k = rw h (omega arith)
+
+  pub sparse-same : sparse ≡ false → (d : List ℕ) (k : ℕ) → d ≡ put d k (sparsePart sparse)
+  unfolding sparsePart
+  sparse-same h d k = rw h (sym (put-none d k))
+
+module _ (writes : Bool) (size : ℕ) where
+  pub tree-room : writes ≡ true → (k m : ℕ) → k + length (treeHead writes size) ≤ m → k + 8 ≤ m
+  unfolding treeHead
+  tree-room h k m r = let l : length (treeHead writes size) ≡ 8 = rw h (length-head treeSignature size refl) in omega arith
+
+  pub tree-next : writes ≡ true → (k r : ℕ) → r ≡ k + 8 → r ≡ k + length (treeHead writes size)
+  unfolding treeHead
+  tree-next h k r e = let l : length (treeHead writes size) ≡ 8 = rw h (length-head treeSignature size refl) in omega arith
+
+  pub tree-put : writes ≡ true → (d d₁ : List ℕ) (k : ℕ) → d₁ ≡ put d k (extensionHead treeSignature size) → d₁ ≡ put d k (treeHead writes size)
+  unfolding treeHead
+  tree-put h d d₁ k e = rw h e
+
+  pub tree-none : writes ≡ false → (k : ℕ) → k ≡ k + length (treeHead writes size)
+  unfolding treeHead
+  tree-none h k = rw h (omega arith)
+
+  pub tree-same : writes ≡ false → (d : List ℕ) (k : ℕ) → d ≡ put d k (treeHead writes size)
+  unfolding treeHead
+  tree-same h d k = rw h (sym (put-none d k))
+
+pub short-tree : (writes : Bool) (size : ℕ) → length (treeHead writes size) ≤ 8
+unfolding treeHead
+short-tree true size = omega (arith, length-head treeSignature size refl)
+short-tree false size = omega arith
+
+pub short-sparse : (sparse : Bool) → length (sparsePart sparse) ≤ 8
+unfolding sparsePart
+short-sparse true = omega (arith, length-head sparseSignature 0 refl)
+short-sparse false = omega arith
+
+-- ---- the extensions' signatures and sizes, in an array of 16 bytes
+
+module _ (writes : Bool) (size : ℕ) (sparse : Bool) (d : List ℕ) (z : d ≡ replicate 16 0) where
+  sixteen : length d ≡ 16
+  sixteen = ap length z ∙ length-replicate {A = ℕ} 16 0
+
+  pub contents-first : 0 + length (treeHead writes size) ≤ length d
+  contents-first = omega (arith, sixteen, short-tree writes size)
+
+  module _ (d₁ : List ℕ) (m : ℕ) (e₁ : d₁ ≡ put d 0 (treeHead writes size)) (em : m ≡ 0 + length (treeHead writes size)) where
+    same-long : length d₁ ≡ 16
+    same-long = ap length e₁ ∙ length-put d (treeHead writes size) 0 contents-first ∙ sixteen
+
+    pub contents-second : m + length (sparsePart sparse) ≤ length d₁
+    contents-second = omega (arith, same-long, short-tree writes size, short-sparse sparse)
+
+    module _ (d₂ : List ℕ) (n : ℕ) (e₂ : d₂ ≡ put d₁ m (sparsePart sparse)) (en : n ≡ m + length (sparsePart sparse)) where
+      both : d₂ ≡ put d 0 (contents writes size sparse)
+      unfolding contents
+      both = e₂ ∙ (λ j. put (e₁ j) (em j) (sparsePart sparse)) ∙ put-put d (treeHead writes size) (sparsePart sparse) 0 (omega arith)
+
+      whole : n ≡ length (contents writes size sparse)
+      unfolding contents
+      whole = omega (arith, length-append (treeHead writes size) (sparsePart sparse))
+
+      pub contents-inside : n ≤ length d₂
+      contents-inside = omega (arith, ap length e₂, length-put d₁ (sparsePart sparse) m contents-second, contents-second)
+
+      pub contents-are : take n d₂ ≡ contents writes size sparse
+      contents-are =
+          (λ j. take n ((both ∙ put-front d (contents writes size sparse)) j))
+          ∙ take-at (contents writes size sparse) (drop (length (contents writes size sparse)) d) n (sym whole)
+
+      pub contents-hashed : (hash : List ℕ) → hash ≡ sha1 (take n d₂) → hash ≡ sha1 (contents writes size sparse)
+      contents-hashed hash e = e ∙ ap (λ (l : List ℕ). sha1 l) contents-are
+
+-- ---- EOIE
+
+module _ (has : Bool) (offset : ℕ) (toc : List ℕ) where
+  pub length-eoie : has ≡ true → length (eoiePart 20 sha1 has offset toc) ≡ 32
+  unfolding eoiePart
+  length-eoie h =
+      rw h
+      (omega (arith, length-append (extensionHead eoieSignature 24 ++ bytesOf 4 offset) (sha1 toc), length-append (extensionHead eoieSignature 24) (bytesOf 4 offset), length-head eoieSignature 24 refl, length-bytes 4 offset, length-sha1 toc))
+
+  module _ (h : has ≡ true) (k : ℕ) (d : List ℕ) (room : k + length (eoiePart 20 sha1 has offset toc) ≤ length d) where
+    pub eoie-head-room : k + 8 ≤ length d
+    eoie-head-room = omega (arith, length-eoie h)
+
+    module _ (b : ℕ) (eb : b ≡ k + 8) (d₁ : List ℕ) (e₁ : d₁ ≡ put d k (extensionHead eoieSignature 24)) where
+      same₁ : length d₁ ≡ length d
+      same₁ = ap length e₁ ∙ length-put d (extensionHead eoieSignature 24) k (omega (arith, length-head eoieSignature 24 refl, eoie-head-room))
+
+      pub eoie-offset-room : b + 4 ≤ length d₁
+      eoie-offset-room = omega (arith, length-eoie h, same₁)
+
+      pub eoie-hash-room : (d₂ : List ℕ) → d₂ ≡ paste d₁ b (bytesOf 4 offset) 4 → b + 4 + 20 ≤ length d₂
+      eoie-hash-room d₂ e₂ = omega (arith, length-eoie h, same₁, ap length e₂, length-paste d₁ b (bytesOf 4 offset) 4 eoie-offset-room (omega (arith, length-bytes 4 offset)))
+
+  pub eoie-hash : (hash : List ℕ) → hash ≡ sha1 toc → 0 + 20 ≤ length hash
+  eoie-hash hash e = omega (arith, ap length e, length-sha1 toc)
+
+  pub eoie-next : has ≡ true → (k b : ℕ) → b ≡ k + 8 → b + 4 + 20 ≡ k + length (eoiePart 20 sha1 has offset toc)
+  eoie-next h k b e = omega (arith, length-eoie h)
+
+  pub eoie-put : has ≡ true → (d d₁ d₂ d₃ hash : List ℕ) (k b : ℕ) → k + length (eoiePart 20 sha1 has offset toc) ≤ length d → hash ≡ sha1 toc → b ≡ k + 8 → d₁ ≡ put d k (extensionHead eoieSignature 24) → d₂ ≡ paste d₁ b (bytesOf 4 offset) 4 → d₃ ≡ paste d₂ (b + 4) hash 20
+      → d₃ ≡ put d k (eoiePart 20 sha1 has offset toc)
+  unfolding eoiePart
+  eoie-put h d d₁ d₂ d₃ hash k b room eh eb e₁ e₂ e₃ =
+      let x : List ℕ = extensionHead eoieSignature 24 in
+      let o : List ℕ = bytesOf 4 offset in
+      let lx : length (extensionHead eoieSignature 24) ≡ 8 = length-head eoieSignature 24 refl in
+      let lo : length (bytesOf 4 offset) ≡ 4 = length-bytes 4 offset in
+      let low : k ≤ length d = omega arith in
+      let pb : b ≡ k + length x = omega arith in
+      let pe : b + 4 ≡ k + length (x ++ o) = omega (arith, length-append x o) in
+      let q₂ : d₂ ≡ put d k (x ++ o) = e₂ ∙ paste-put d₁ o b 4 (sym lo) ∙ (λ j. put (e₁ j) (pb j) o) ∙ put-put d x o k low in
+      let q₃ : d₃ ≡ put d k ((x ++ o) ++ sha1 toc)
+      = e₃ ∙ ap (λ (l : List ℕ). paste d₂ (b + 4) l 20) eh ∙ paste-put d₂ (sha1 toc) (b + 4) 20 (sym (length-sha1 toc)) ∙ (λ j. put (q₂ j) (pe j) (sha1 toc)) ∙ put-put d (x ++ o) (sha1 toc) k low in
+      rw h q₃
+
+  pub eoie-none : has ≡ false → (k : ℕ) → k ≡ k + length (eoiePart 20 sha1 has offset toc)
+  unfolding eoiePart
+  eoie-none h k = rw h (omega arith)
+
+  pub eoie-same : has ≡ false → (d : List ℕ) (k : ℕ) → d ≡ put d k (eoiePart 20 sha1 has offset toc)
+  unfolding eoiePart
+  eoie-same h d k = rw h (sym (put-none d k))
+
+-- ---- the trailer
+
+module _ (skips : Bool) (d d₁ : List ℕ) (k : ℕ) where
+  pub trailer-zeros : skips ≡ true → d₁ ≡ paste d k (replicate 20 0) 20 → d₁ ≡ put d k (trailerOf 20 sha1 skips (take k d))
+  unfolding trailerOf
+  trailer-zeros h e = rw h (e ∙ paste-put d (replicate 20 0) k 20 (sym (length-replicate {A = ℕ} 20 0)))
+
+  pub trailer-hash : skips ≡ false → (hash : List ℕ) → hash ≡ sha1 (take k d) → d₁ ≡ paste d k hash 20 → d₁ ≡ put d k (trailerOf 20 sha1 skips (take k d))
+  unfolding trailerOf
+  trailer-hash h hash eh e = rw h (e ∙ ap (λ (l : List ℕ). paste d k l 20) eh ∙ paste-put d (sha1 (take k d)) k 20 (sym (length-sha1 (take k d))))
+
+pub ruleset parts = (head-put, sparse-room, sparse-next, sparse-put, sparse-none, sparse-same, tree-room, tree-next, tree-put, tree-none, tree-same, contents-first, contents-second, contents-inside, contents-hashed, eoie-head-room, eoie-offset-room, eoie-hash-room, eoie-hash, eoie-next, eoie-put, eoie-none, eoie-same, trailer-zeros, trailer-hash)
 
 pub ruleset laws = (stated-short, stated-long, fixed-wide, fixed-plain, version-three, version-same, fault-gone, fault-none, fault-outside, kept-gone, kept-one, size-gone, gone-next, gone-put, size-kept, kept-room, kept-next, kept-put, head-is, head-fits, entry-put, fill-start, fill-room, fill-more, fill-end, fill-place, sizing-start, sizing-end, sizing-fault, sizing-more)
