@@ -1,0 +1,1 @@
+-- The proofs of node use the laws of specs/Laws.antt.

@@ -1,0 +1,79 @@
+-- The node store (01, Extensions: "Nodes go to a lent store in file order, each with name place, count, subtree count, id and parent"): 72 bytes a node. Where the
+-- name starts and ends, count, subtree count and parent are 64 bits each, and 32 bytes are the id's, zero where there is none. Assumes nothing.
+use Prim.Native.Nat.{ℕ, _+_, _-_, _*_, _/_}
+use mathlib.Core.Bool.{Bool, true, false}
+use mathlib.Core.List.{List, [], _++_}
+use lib.ListN.{length, take, drop, replicate}
+use lib.Dec.{ltb, leb}
+use lib.Seq.{paste}
+use Rattle.laws.specs.Pick.{pick}
+use Rattle.wire.specs.BigEndian.{beAt, bytesOf}
+use Rattle.node.specs.declared.Node.{Node}
+
+abbrev pub nodeSize : ℕ
+nodeSize = 72
+
+abbrev pub idRoom : ℕ
+idRoom = 32
+
+-- how many nodes a store has room for
+abbrev pub nodesIn : List ℕ → ℕ
+nodesIn ns = length ns / 72
+
+-- ---- a node's bytes
+
+unfoldable pub numbersOf : Node → ℕ → List ℕ
+numbersOf n parent = bytesOf 8 (n .start) ++ bytesOf 8 (n .stop) ++ bytesOf 8 (n .count) ++ bytesOf 8 (n .subtrees) ++ bytesOf 8 parent
+
+-- the id's bytes in the file, and zeros up to 32
+unfoldable pub idOf : List ℕ → Node → List ℕ
+idOf s n = take (n .next - n .id) (drop (n .id) s) ++ replicate (32 - (n .next - n .id)) 0
+
+unfoldable pub nodeOf : List ℕ → Node → ℕ → List ℕ
+nodeOf s n parent = numbersOf n parent ++ idOf s n
+
+-- the store with node i written: as it was where it has no node i, or where the id does not lie in the file or is too long
+unfoldable pub putAt : List ℕ → Node → ℕ → List ℕ → ℕ → List ℕ
+putAt s n parent ns i =
+    pick (leb (length ns / 72) i) ns
+    (pick (ltb (n .next) (n .id)) ns
+    (pick (ltb 32 (n .next - n .id)) ns
+    (pick (ltb (length s) (n .next)) ns
+    (paste ns (i * 72) (nodeOf s n parent) 72))))
+
+-- ---- what the store says of node i
+
+-- the number at k; 0 past the last whole node
+unfoldable pub wordAt : ℕ → List ℕ → ℕ → ℕ
+wordAt k ns i = pick (ltb i (length ns / 72)) (beAt 8 ns (i * 72 + k)) 0
+
+abbrev pub nameStartAt : List ℕ → ℕ → ℕ
+nameStartAt = wordAt 0
+
+abbrev pub nameEndAt : List ℕ → ℕ → ℕ
+nameEndAt = wordAt 8
+
+abbrev pub countAt : List ℕ → ℕ → ℕ
+countAt = wordAt 16
+
+abbrev pub subtreesAt : List ℕ → ℕ → ℕ
+subtreesAt = wordAt 24
+
+abbrev pub parentAt : List ℕ → ℕ → ℕ
+parentAt = wordAt 32
+
+unfoldable pub idAt : ℕ → List ℕ → ℕ → List ℕ
+idAt idLength ns i = pick (ltb i (length ns / 72)) (take idLength (drop (i * 72 + 40) ns)) []
+
+-- the part of the names from b to e; empty where it is no part of them
+unfoldable pub isPart : List ℕ → ℕ → ℕ → Bool
+isPart names b e = pick (leb b e) (leb e (length names)) false
+
+unfoldable pub partOf : List ℕ → ℕ → ℕ → List ℕ
+partOf names b e = pick (isPart names b e) (take (e - b) (drop b names)) []
+
+unfoldable pub nameInside : List ℕ → List ℕ → ℕ → Bool
+nameInside names ns i = isPart names (nameStartAt ns i) (nameEndAt ns i)
+
+unfoldable pub nameAt : List ℕ → List ℕ → ℕ → List ℕ
+nameAt names ns i = partOf names (nameStartAt ns i) (nameEndAt ns i)

@@ -1,0 +1,1 @@
+-- The proofs of siblings use the laws of specs/Laws.antt.

@@ -1,0 +1,47 @@
+use Rattle.siblings.specs.Laws.{rises}
+use borrow.Author.Needs.{needs}
+use Rattle.siblings.proofs.rises.Statement.{statement}
+use Rattle.siblings.proofs.rises.Tie as tie
+use Rattle.siblings.proofs.rises.Reads as reads
+use Rattle.siblings.proofs.rises.Lts as lts
+use Rattle.node.proofs.name.Reads as name-reads
+use Rattle.siblings.proofs.ahead_in_git.Reads as ahead-in-git-reads
+use Rattle.siblings.proofs.both.Reads as both-reads
+use Rattle.siblings.proofs.comes_before.Reads as comes-before-reads
+
+returns : tie.Need-returns
+returns c = search (rises, needs)
+
+name-requires : tie.Need-name-requires
+name-requires c κs = search (rises, needs)
+
+name-requires-2 : tie.Need-name-requires-2
+name-requires-2 c κs = search (rises, needs)
+
+comes-before-requires : tie.Need-comes-before-requires
+comes-before-requires c κs = search (rises, needs)
+
+ahead-in-git-requires : tie.Need-ahead-in-git-requires
+ahead-in-git-requires c κs = search (rises, needs)
+
+both-requires : tie.Need-both-requires
+both-requires c κs = search (rises, needs)
+
+both-requires-2 : tie.Need-both-requires-2
+both-requires-2 c κs = search (rises, needs)
+
+returns-2 : tie.Need-returns-2
+returns-2 c = search (rises, needs)
+
+pub rises-spec : {M : Type 1} → statement M
+rises-spec =
+    tie.close
+    (tie.spec
+    returns
+    name-requires
+    name-requires-2
+    comes-before-requires
+    ahead-in-git-requires
+    both-requires
+    both-requires-2
+    returns-2)

@@ -1,0 +1,1 @@
+-- The proofs of tree use the laws of specs/Laws.antt.
