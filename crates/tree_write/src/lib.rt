@@ -10,6 +10,8 @@ ghost use Rattle.node.specs.Store.{countAt};
 ghost use Rattle.tree_write.specs.Order.{before};
 ghost use Rattle.tree_write.specs.Tree.{countBytes, frontBytes, numberBytes, idBytes, headBytes, after, ahead, better, nextKid, nodeBytes};
 
+pub mod proper;
+
 // The deepest level that is written.
 const DEPTH_LIMIT: usize = 64;
 
