@@ -8,18 +8,18 @@ use native.Mathlib.Omega.{arith}
 use lib.Dec.{ltb, eqb}
 use lib.ListN.{length, set, length-append}
 use lib.Seq.{paste}
-use borrow.Author.Tests.{lt-ltb, le-ltb, eq-eqb, ne-eqb}
+use borrow.Author.Tests.{lt-ltb, le-ltb, le-leb, lt-leb, eq-eqb, ne-eqb}
 use Rattle.laws.specs.Pick.{pick}
 use Rattle.laws.specs.Put.{put, put-none, put-put, length-put, paste-put, set-put}
 use Rattle.laws.specs.Order.{Comparison, below, equal, beyond, compared, Compares, is-below, is-equal, is-beyond, compares, before-below, before-beyond, compared-same}
-use Rattle.sums.specs.Cap.{largest, cap, cap-fits, cap-small, cap-cap, cap-cap-right}
+use Rattle.sums.specs.Cap.{largest, cap, cap-fits, cap-small, cap-le, cap-below, cap-cap}
 use Rattle.wire.specs.Written.{digitsOf}
 use Rattle.node.specs.Head.{minusOne}
 use Rattle.node.specs.Store.{countAt, subtreesAt, parentAt, idAt, nameAt}
 use Rattle.siblings.specs.Rising.{isBelow}
 use Rattle.siblings.specs.Rising as rising
 use Rattle.tree_write.specs.Order.{byIndex, before, false-true}
-use Rattle.tree_write.specs.Tree.{countBytes, frontBytes, numberBytes, idBytes, headBytes, after, ahead, better, bestRun, nextKid, kids, each, nodeBytes}
+use Rattle.tree_write.specs.Tree.{countBytes, frontBytes, numberBytes, idBytes, headBytes, after, ahead, better, bestRun, nextKid, kids, each, nodeBytes, putFit}
 
 -- ---- bytes put side by side
 
@@ -447,6 +447,30 @@ node-size-more ns nm b me left last kid size size′ one r inv is e q =
     ∙ cap-cap (length (nodeBytes 20 ns nm b kid)) (size + rest)
     ∙ ap cap y
     ∙ inv
+
+-- ---- the whole tree
+
+fits : (tree : List ℕ) (k m size : ℕ) → k ≤ m → size ≡ cap (length tree) → size ≤ m - k → m < largest → k + length tree ≤ m
+fits tree k m size inside is h small = omega (arith, cap-below (length tree) (m - k) (omega arith) (omega arith))
+
+pub tree-fits : (ns nm : List ℕ) (k m size : ℕ) → k ≤ m → size ≡ cap (length (nodeBytes 20 ns nm 64 0)) → size ≤ m - k → m < largest → k + length (nodeBytes 20 ns nm 64 0) ≤ m
+tree-fits ns nm k m size inside is h small = fits (nodeBytes 20 ns nm 64 0) k m size inside is h small
+
+module _ (out tree : List ℕ) (k : ℕ) where
+  pub tree-past : length out < k → out ≡ putFit out k tree
+  unfolding putFit
+  tree-past h = sym (rw (lt-leb (k + length tree) (length out) (omega arith)))
+
+  module _ (inside : k ≤ length out) (size : ℕ) (is : size ≡ cap (length tree)) where
+    pub tree-short : length out - k < size → out ≡ putFit out k tree
+    unfolding putFit
+    tree-short h = sym (rw (lt-leb (k + length tree) (length out) (omega (arith, cap-le (length tree)))))
+
+    pub tree-done : length out < largest → size ≤ length out - k → (out₁ : List ℕ) → out₁ ≡ put out k tree → out₁ ≡ putFit out k tree
+    unfolding putFit
+    tree-done small h out₁ e = e ∙ sym (rw (le-leb (k + length tree) (length out) (fits tree k (length out) size inside is h small)))
+
+pub ruleset tree-laws = (tree-past, tree-short)
 
 pub ruleset laws = (bytes-put, byte-put, count-minus, count-digits, minus-room, minus-room-2, minus-next, minus-put, digits-room, digits-next, digits-put, id-none, id-long, id-same, id-stays, id-room, id-next, id-put, front-name, front-nul, front-count, front-next, front-put, numbers-space, numbers-digits, numbers-line, numbers-next, numbers-put, head-first, head-second, head-third, head-next, head-put, head-size, before-less, before-greater, before-lower, before-higher, after-none, after-one, ahead-none, ahead-one, better-stranger, better-passed, better-new, better-old)
 

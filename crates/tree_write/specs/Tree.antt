@@ -3,9 +3,10 @@
 use mathlib.Core.Bool.{Bool, true, false}
 use mathlib.Core.List.{List, [], _∷_, _++_}
 use Prim.Native.Nat.{ℕ, zero, suc, _+_, _-_}
-use lib.Dec.{ltb, eqb}
+use lib.Dec.{ltb, leb, eqb}
 use lib.ListN.{length}
 use Rattle.laws.specs.Pick.{pick}
+use Rattle.laws.specs.Put.{put}
 use Rattle.wire.specs.Written.{digitsOf}
 use Rattle.node.specs.Head.{minusOne}
 use Rattle.node.specs.Store.{nodesIn, countAt, subtreesAt, parentAt, idAt, nameAt}
@@ -76,3 +77,7 @@ depthLimit = 64
 
 abbrev pub treeBytes : ℕ → ℕ → List ℕ → List ℕ → List ℕ
 treeBytes id limit ns nm = nodeBytes id ns nm limit 0
+
+-- the output with a tree put at a place; as it was where the tree does not fit
+unfoldable pub putFit : List ℕ → ℕ → List ℕ → List ℕ
+putFit out at tree = pick (leb (at + length tree) (length out)) (put out at tree) out

@@ -8,7 +8,7 @@ ghost use Rattle.laws.specs.Put.{put};
 ghost use Rattle.sums.specs.Cap.{cap};
 ghost use Rattle.node.specs.Store.{countAt};
 ghost use Rattle.tree_write.specs.Order.{before};
-ghost use Rattle.tree_write.specs.Tree.{countBytes, frontBytes, numberBytes, idBytes, headBytes, after, ahead, better, nextKid, nodeBytes};
+ghost use Rattle.tree_write.specs.Tree.{countBytes, frontBytes, numberBytes, idBytes, headBytes, after, ahead, better, nextKid, nodeBytes, treeBytes, putFit};
 
 pub mod proper;
 
@@ -247,4 +247,26 @@ fn node_size(nodes: &[u8], names: &[u8], me: usize, depth: usize) -> usize
         left -= 1;
     }
     size
+}
+
+// How many bytes the tree of a table is written into.
+pub fn tree_size(nodes: &[u8], names: &[u8]) -> usize
+    ensures { λ r. ⌜ r ≡ cap (length (treeBytes 20 64 (now (nodes .entry)) (now (names .entry)))) ⌝ }
+{
+    node_size(nodes, names, 0, DEPTH_LIMIT)
+}
+
+// Writes the tree of a table at `at`; nothing where it does not fit.
+pub fn put_tree(nodes: &[u8], names: &[u8], out: &mut [u8], at: usize)
+    ensures { λ _. ⌜ now (out .exit) ≡ putFit (now (out .entry)) at (treeBytes 20 64 (now (nodes .entry)) (now (names .entry))) ⌝ }
+{
+    if out.len() < at {
+        return;
+    }
+    let room = out.len() - at;
+    let size = tree_size(nodes, names);
+    if room < size {
+        return;
+    }
+    put_node(nodes, names, 0, out, at, DEPTH_LIMIT);
 }
