@@ -178,7 +178,7 @@ module _ (writes : Bool) (t : List ℕ) (sparse : Bool) where
 
 -- ---- EOIE and the trailer
 
-length-trailer : (skips : Bool) (x : List ℕ) → length (trailerOf 20 sha1 skips x) ≡ 20
+pub length-trailer : (skips : Bool) (x : List ℕ) → length (trailerOf 20 sha1 skips x) ≡ 20
 unfolding trailerOf
 length-trailer true x = length-replicate {A = ℕ} 20 0
 length-trailer false x = length-sha1 x

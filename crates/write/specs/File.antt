@@ -2,11 +2,13 @@
 -- TREE, `sdir`, EOIE and the trailer, one after the other; and what the writer answers. Assumes nothing.
 use Prim.Native.Nat.{ℕ, _+_, _-_}
 use mathlib.Core.Bool.{Bool, true, false}
+use mathlib.Core.Path.{_≡_}
 use mathlib.Core.List.{List, [], _∷_, _++_}
 use lib.Dec.{ltb}
 use lib.ListN.{length, drop, replicate}
 use Rattle.laws.specs.Pick.{pick}
 use Rattle.wire.specs.BigEndian.{bytesOf}
+use Rattle.sums.specs.Cap.{cap}
 use Rattle.entry.specs.Record.{recordsIn}
 use Rattle.refusal.specs.Refusal.{path-outside, short-output, too-large, not-proper}
 use Rattle.tree_write.specs.Tree.{treeBytes}
@@ -119,6 +121,12 @@ fileBytes id hash limit rs ps ns nm o =
     fileOf id hash
     (closedOf id hash (bodyBytes id limit rs ps ns nm o) (hasEoie (recordsIn rs) o) (offsetOf id rs ps) (contents (writesTree o) (length (treeOf id limit ns nm (writesTree o))) (o .sparse)))
     (o .unhashed)
+
+-- what the sizing pass finds where no record has a fault
+pub record Counted (rs ps : List ℕ) (version count size : ℕ) : Type 0 where
+  pub versioned : version ≡ versionOf rs
+  pub counted : count ≡ countOf rs (recordsIn rs) 0
+  pub sized : size ≡ cap (headerSize + length (tableBytes 20 rs ps))
 
 -- ---- the answer
 

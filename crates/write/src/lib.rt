@@ -6,8 +6,7 @@ ghost use Rattle.laws.specs.Put.{put};
 ghost use Rattle.sums.specs.Cap.{cap};
 ghost use Rattle.sha1.specs.Sha1.{sha1};
 ghost use Rattle.entry.specs.Record.{recordsIn};
-ghost use Rattle.write.specs.Entries.{countOf};
-ghost use Rattle.write.specs.File.{headerOf, versionOf, contents, frontOf, extensionsOf, bodyOf, offsetOf, closedOf, fileOf, endOf, headSize, endSize, most, eoiePart, treeOf, treeFits, writesTree, hasEoie, bodyBytes, fileBytes, outcome, writeFile, writeAll};
+ghost use Rattle.write.specs.File.{headerOf, versionOf, contents, frontOf, extensionsOf, bodyOf, offsetOf, closedOf, fileOf, endOf, headSize, endSize, most, eoiePart, treeOf, treeFits, writesTree, hasEoie, bodyBytes, fileBytes, Counted, outcome, writeFile, writeAll};
 use entries::Sized;
 
 mod entries;
@@ -212,4 +211,93 @@ fn body_size(front: usize, writes: bool, tree: usize, sparse: bool) -> usize
     let headed = sums::plus(front, head);
     let treed = sums::plus(headed, tree);
     sums::plus(treed, last)
+}
+
+// Writes a table that was sized and whose tree may be written: refuses what is too large or does not fit, and fills the output.
+fn write_sized(
+    records: &[u8],
+    paths: &[u8],
+    nodes: &[u8],
+    names: &[u8],
+    o: Options,
+    writes: bool,
+    version: u32,
+    count: usize,
+    size: usize,
+    out: &mut [u8],
+) -> Answer
+    requires { ⌜ writes ≡ writesTree o ⌝ }
+    requires { ⌜ Counted (now records) (now paths) version count size ⌝ }
+    ensures { λ r. ⌜ outcome r (now (out .exit)) ≡ writeFile (recordsIn (now (records .entry))) (versionOf (now (records .entry))) (bodyBytes 20 64 (now (records .entry)) (now (paths .entry)) (now (nodes .entry)) (now (names .entry)) o) (fileBytes 20 sha1 64 (now (records .entry)) (now (paths .entry)) (now (nodes .entry)) (now (names .entry)) o) (now (out .entry)) ⌝ }
+{
+    let n = entry::records_in(records);
+    let tree = tree_length(nodes, names, writes);
+    let body = body_size(size, writes, tree, o.sparse);
+    if MOST < n {
+        return Answer::TooLarge;
+    }
+    if MOST < body {
+        return Answer::TooLarge;
+    }
+    let has = has_eoie(o, n, writes);
+    let whole = body + end_size(has);
+    if out.len() < whole {
+        return Answer::ShortOutput { size: whole };
+    }
+    fill(
+        records,
+        paths,
+        nodes,
+        names,
+        o,
+        version,
+        count as u32,
+        writes,
+        tree as u32,
+        has,
+        out,
+    );
+    Answer::Done {
+        version,
+        size: whole,
+    }
+}
+
+// Writes the index file of a table into out, or says why not, and then out stays as it was.
+pub fn write_to(
+    records: &[u8],
+    paths: &[u8],
+    nodes: &[u8],
+    names: &[u8],
+    o: Options,
+    out: &mut [u8],
+) -> Answer
+    ensures { λ r. ⌜ outcome r (now (out .exit)) ≡ writeAll 20 sha1 64 (now (records .entry)) (now (paths .entry)) (now (nodes .entry)) (now (names .entry)) o (now (out .entry)) ⌝ }
+{
+    let s = entries::size_entries(records, paths);
+    match s {
+        Sized::Outside { index } => Answer::PathOutside { index },
+        Sized::Of {
+            version,
+            count,
+            size,
+        } => {
+            let writes = writes_tree(o);
+            if tree_fits(nodes, names, writes) {
+                return write_sized(
+                    records,
+                    paths,
+                    nodes,
+                    names,
+                    o,
+                    writes,
+                    version,
+                    count,
+                    size,
+                    out,
+                );
+            }
+            Answer::NotProper
+        }
+    }
 }
