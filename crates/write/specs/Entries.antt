@@ -9,7 +9,8 @@ use Rattle.laws.specs.Pick.{pick}
 use Rattle.wire.specs.BigEndian.{bytesOf}
 use Rattle.sums.specs.Cap.{cap}
 use Rattle.entry.specs.Flags.{bit, extended, removed, toStorage, extendedToStorage}
-use Rattle.entry.specs.Record.{recordSize, recordsIn, flagsAt, liesInside, pathAt}
+use Rattle.entry.specs.Layout.{recordSize}
+use Rattle.entry.specs.Record.{recordsIn, flagsAt, liesInside, pathAt}
 use Rattle.write.specs.declared.entries.Sized.{Sized}
 use Rattle.write.specs.declared.entries.Sized.the-variants.{Of, Outside}
 

@@ -11,7 +11,8 @@ use Rattle.laws.specs.Lists.{length-part}
 use Rattle.wire.specs.BigEndian.{bytesOf, length-bytes}
 use Rattle.sums.specs.Cap.{largest, cap, cap-fits, cap-small, cap-cap}
 use Rattle.entry.specs.Flags.{bit, extended, removed, toStorage, extendedToStorage}
-use Rattle.entry.specs.Record.{recordSize, recordsIn, flagsAt, pathAt}
+use Rattle.entry.specs.Layout.{recordSize}
+use Rattle.entry.specs.Record.{recordsIn, flagsAt, pathAt}
 use Rattle.write.specs.declared.entries.Sized.{Sized}
 use Rattle.write.specs.declared.entries.Sized.the-variants.{Of, Outside}
 use Rattle.write.specs.Entries.{isGone, faultOf, stated, fixedOf, frontAt, flagBytes, padOf, wholeOf, entryOf, recordBytes, beforeAt, entriesBytes, keptOf, countOf, anyExtended, versionWith, First, found, nowhere, firstFault, onFirst, sizeRun}
