@@ -45,10 +45,10 @@ framed-here signature body l h = rw (append-assoc signature (bytesOf 4 (length b
 not-mandatory : (signature : List ℕ) → getD signature 0 0 < 97 → Mandatory signature → ⊥
 not-mandatory signature h m = omega (arith, m .least)
 
-tree-part : (writes : Bool) (tree : List ℕ) → length tree < 2 ^ 32 → Fill Extension (treeHead writes (length (pick writes tree [])) ++ pick writes tree []) (pick writes (ext TREE tree ∷ []) [])
+tree-part : (writes : Bool) (tree : List ℕ) → (writes ≡ true → length tree < 2 ^ 32) → Fill Extension (treeHead writes (length (pick writes tree [])) ++ pick writes tree []) (pick writes (ext TREE tree ∷ []) [])
 unfolding treeHead
 tree-part false tree h = done
-tree-part true tree h = one (record { is-framed = framed-here TREE tree refl h; is-allowed = optional (not-mandatory TREE (lit< tt)) })
+tree-part true tree h = one (record { is-framed = framed-here TREE tree refl (h refl); is-allowed = optional (not-mandatory TREE (lit< tt)) })
 
 sparse-part : (sparse : Bool) → Fill Extension (sparsePart sparse) (pick sparse (ext sdir [] ∷ []) [])
 unfolding sparsePart
@@ -69,7 +69,7 @@ eoie-part id hash true offset toc h l =
 
 -- ---- all of them
 
-pub extensions-spelled : (id : ℕ) (hash : List ℕ → List ℕ) (writes : Bool) (tree : List ℕ) (sparse has : Bool) (offset : ℕ) (toc : List ℕ) → length tree < 2 ^ 32 → id < 2 ^ 31 → length (hash toc) ≡ id
+pub extensions-spelled : (id : ℕ) (hash : List ℕ → List ℕ) (writes : Bool) (tree : List ℕ) (sparse has : Bool) (offset : ℕ) (toc : List ℕ) → (writes ≡ true → length tree < 2 ^ 32) → id < 2 ^ 31 → length (hash toc) ≡ id
     → Extensions (extensionsOf writes (pick writes tree []) sparse ++ eoiePart id hash has offset toc) (extensionsMeant writes tree sparse has (bytesOf 4 offset ++ hash toc))
 unfolding extensionsOf
 extensions-spelled id hash writes tree sparse has offset toc h k l =
