@@ -1,13 +1,14 @@
 -- WHAT A RECORD TABLE MEANS, in the grammar's terms and through the accessors (01, "Writing"): the records that are written, what is kept of each, and what the paths must be
 -- like so that they can be read again. No byte of a file is named here. Assumes nothing.
-use Prim.Native.Nat.{ℕ, zero, suc, _+_, _≤_, _<_}
+use Prim.Native.Nat.{ℕ, zero, suc, _+_, _/_, _%_, _^_, _≤_, _<_}
 use mathlib.Core.Path.{_≡_}
 use mathlib.Core.Bool.{Bool, true, false}
 use mathlib.Core.List.{List, [], _∷_, map}
 use lib.ListN.{length}
 use Rattle.laws.specs.Pick.{pick}
 use Rattle.entry.specs.Flags.{bit, extended, toStorage, keepFlags}
-use Rattle.entry.specs.Record.{recordsIn, fieldAt, modeAt, flagsAt, idAt, pathAt}
+use Rattle.entry.specs.Record.{recordsIn, fieldAt, modeAt, flagsAt, stageAt, idAt, liesInside, pathAt}
+use Rattle.entry.specs.Stat.{statAt}
 use Rattle.grammar.specs.Entry.{Stat, Meaning, meaning, keptMode, NoNul, fullField}
 use Rattle.write.specs.Entries.{isGone}
 
@@ -60,3 +61,34 @@ PathEnds p = fullField ≤ length p → NoNul p
 -- so for each record that is written
 abbrev pub PathsEnd : List ℕ → List ℕ → Type 0
 PathsEnd rs ps = (i : ℕ) → i < recordsIn rs → isGone rs i ≡ false → PathEnds (pathAt rs ps i)
+
+-- the bits 29 and 30 stand only beside EXTENDED
+abbrev pub MarksFit : ℕ → Type 0
+MarksFit flags = flags / 2 ^ extended % 2 ≡ 0 → flags / 2 ^ 29 % 4 ≡ 0
+
+-- a record that loses nothing by being written: no NUL in a path whose length cannot be stated, a mode of known bits, and extended bits only beside EXTENDED
+pub record Writable (rs ps : List ℕ) (i : ℕ) : Type 0 where
+  pub path : PathEnds (pathAt rs ps i)
+  pub mode : keptMode (modeAt rs i) ≡ modeAt rs i
+  pub marks : MarksFit (flagsAt rs i)
+
+-- each record that is written is such a one
+abbrev pub WritableTable : List ℕ → List ℕ → Type 0
+WritableTable rs ps = (i : ℕ) → i < recordsIn rs → isGone rs i ≡ false → Writable rs ps i
+
+-- no record is marked REMOVE
+abbrev pub NoneRemoved : List ℕ → Type 0
+NoneRemoved rs = (i : ℕ) → i < recordsIn rs → isGone rs i ≡ false
+
+-- ---- WHAT READS BACK
+
+-- record j of one table shows what record i of the other does: every field, the kept bits of the flags, and the path, which lies in its store
+pub record SameEntry (rs ps : List ℕ) (i : ℕ) (rs′ ps′ : List ℕ) (j : ℕ) : Type 0 where
+  pub there : j < recordsIn rs′
+  pub stat : statAt rs′ j ≡ statAt rs i
+  pub mode : modeAt rs′ j ≡ modeAt rs i
+  pub id : idAt 20 rs′ j ≡ idAt 20 rs i
+  pub flags : flagsAt rs′ j ≡ keepFlags (flagsAt rs i)
+  pub stage : stageAt rs′ j ≡ stageAt rs i
+  pub inside : liesInside rs′ ps′ j ≡ true
+  pub path : pathAt rs′ ps′ j ≡ pathAt rs ps i

@@ -14,7 +14,7 @@ use Rattle.laws.specs.Tests.{Less, less, not-less, less?}
 use Rattle.wire.specs.BigEndian.{bytesOf, length-bytes}
 use Rattle.sha1.specs.Sha1.{sha1}
 use Rattle.entry.specs.Record.{recordsIn}
-use Rattle.grammar.specs.Entry.{Meaning, start}
+use Rattle.grammar.specs.Entry.{Meaning, start, Entries}
 use Rattle.grammar.specs.Extension.{Ext, TREE, Extensions}
 use Rattle.grammar.specs.Tree.{Tree, Node}
 use Rattle.grammar.specs.DecideTree.{readTree, SaysTree, is-tree, no-tree, tree-says}
@@ -205,10 +205,13 @@ module _ (rs ps ns nm : List ℕ) (o : Options) where
     unfolding treeOf
     extensions-here = extensions-spelled 20 sha1 (writesTree o) (treeBody ns nm) (o .sparse) has (offsetOf 20 rs ps) toc (tree-small short) (lit< tt) (length-sha1 toc)
 
+    pub entries-here : PathsEnd rs ps → Entries 20 (versionOf rs) start count (tableBytes 20 rs ps) (meaningsOf 20 rs ps)
+    entries-here ends = entries-spelled 20 (versionOf rs) rs ps (lit≤ tt) (not-four (anyExtended rs records 0)) ends records 0 start (omega arith)
+
     pub file-spelled : PathsEnd rs ps → File 20 (written rs ps ns nm o) (indexOf rs ps ns nm o)
     file-spelled ends =
         subst (λ (b : List ℕ). File 20 b (indexOf rs ps ns nm o)) (sym written-parts)
-        (file header-here (entries-spelled 20 (versionOf rs) rs ps (lit≤ tt) (not-four (anyExtended rs records 0)) ends records 0 start (omega arith)) extensions-here
+        (file header-here (entries-here ends) extensions-here
         (record { size = length-trailer (o .unhashed) before })
         (either-marks (sparse-tells (meaningsOf 20 rs ps)) (marks-sdir (writesTree o) (treeBody ns nm) (o .sparse) has eoieBody)) cache-tree)
 
