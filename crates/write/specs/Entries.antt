@@ -9,7 +9,7 @@ use Rattle.laws.specs.Pick.{pick}
 use Rattle.wire.specs.BigEndian.{bytesOf}
 use Rattle.sums.specs.Cap.{cap}
 use Rattle.entry.specs.Flags.{bit, extended, removed, toStorage, extendedToStorage}
-use Rattle.entry.specs.Layout.{recordSize, idPlace}
+use Rattle.entry.specs.Layout.{recordSize}
 use Rattle.entry.specs.Record.{recordsIn, flagsAt, liesInside, pathAt}
 use Rattle.write.specs.declared.entries.Sized.{Sized}
 use Rattle.write.specs.declared.entries.Sized.the-variants.{Of, Outside}
@@ -37,7 +37,7 @@ fixedOf id flags = pick (bit extended flags) (44 + id) (42 + id)
 
 -- the fields and the id as they stand in record i, the mode too
 unfoldable pub frontAt : ℕ → List ℕ → ℕ → List ℕ
-frontAt id rs i = take (idPlace + id) (drop (i * recordSize) rs)
+frontAt id rs i = take (40 + id) (drop (i * recordSize) rs)
 
 -- the flags, for a path of so many bytes, and under EXTENDED 16 bits more
 unfoldable pub flagBytes : ℕ → ℕ → List ℕ

@@ -11,6 +11,7 @@ use Rattle.laws.specs.Lists.{length-part}
 use Rattle.wire.specs.BigEndian.{bytesOf, length-bytes}
 use Rattle.sums.specs.Cap.{largest, cap, cap-fits, cap-small, cap-cap}
 use Rattle.entry.specs.Flags.{bit, extended, removed, toStorage, extendedToStorage}
+use Rattle.entry.specs.Layout.{recordSize}
 use Rattle.entry.specs.Record.{recordsIn, flagsAt, pathAt}
 use Rattle.write.specs.declared.entries.Sized.{Sized}
 use Rattle.write.specs.declared.entries.Sized.the-variants.{Of, Outside}

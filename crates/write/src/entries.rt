@@ -17,12 +17,6 @@ const FIXED: usize = 62;
 
 const FIXED_EXTENDED: usize = 64;
 
-// Where those 16 bits stand.
-const EXTENDED_AT: usize = 62;
-
-// A record marked REMOVE is not counted.
-const SKIPPED: usize = 0;
-
 // The fields and the id, which stand in a record as in an entry.
 const FRONT: usize = 60;
 
@@ -95,7 +89,7 @@ fn kept_of(records: &[u8], i: usize) -> usize
 {
     let flags = entry::flags_at(records, i);
     if entry::flags::is_removed(flags) {
-        return SKIPPED;
+        return 0;
     }
     1
 }
@@ -149,7 +143,7 @@ fn head_of(records: &[u8], i: usize, flags: u32, len: usize) -> [u8; 64]
     let mut head = [0u8; 64];
     slices::copy_bytes(records, base, FRONT, &mut head, 0);
     wire::put16(&mut head, FRONT, word);
-    wire::put16(&mut head, EXTENDED_AT, more);
+    wire::put16(&mut head, FIXED, more);
     head
 }
 

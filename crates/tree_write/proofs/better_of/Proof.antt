@@ -1,8 +1,12 @@
--- `tree_write::better_of` meets its contract. Every need follows from the laws of the definitions. Assumes nothing.
 use Rattle.tree_write.proofs.Laws.{laws}
 use borrow.Author.Needs.{needs}
 use Rattle.tree_write.proofs.better_of.Statement.{statement}
 use Rattle.tree_write.proofs.better_of.Tie as tie
+use Rattle.tree_write.proofs.better_of.Reads as reads
+use Rattle.tree_write.proofs.better_of.Lts as lts
+use Rattle.node.proofs.parent.Reads as parent-reads
+use Rattle.tree_write.proofs.comes_after.Reads as comes-after-reads
+use Rattle.tree_write.proofs.comes_ahead.Reads as comes-ahead-reads
 
 parent-requires : tie.Need-parent-requires
 parent-requires c κs = search (laws, needs)

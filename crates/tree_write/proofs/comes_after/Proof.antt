@@ -1,8 +1,10 @@
--- `tree_write::comes_after` meets its contract. Every need follows from the laws of the definitions. Assumes nothing.
 use Rattle.tree_write.proofs.Laws.{laws}
 use borrow.Author.Needs.{needs}
 use Rattle.tree_write.proofs.comes_after.Statement.{statement}
 use Rattle.tree_write.proofs.comes_after.Tie as tie
+use Rattle.tree_write.proofs.comes_after.Reads as reads
+use Rattle.tree_write.proofs.comes_after.Lts as lts
+use Rattle.tree_write.proofs.comes_before.Reads as comes-before-reads
 
 returns : tie.Need-returns
 returns c = search (laws, needs)

@@ -1,8 +1,11 @@
--- `tree_write::comes_before` meets its contract. Every need follows from the laws of the definitions. Assumes nothing.
 use Rattle.tree_write.proofs.Laws.{laws}
 use borrow.Author.Needs.{needs}
 use Rattle.tree_write.proofs.comes_before.Statement.{statement}
 use Rattle.tree_write.proofs.comes_before.Tie as tie
+use Rattle.tree_write.proofs.comes_before.Reads as reads
+use Rattle.tree_write.proofs.comes_before.Lts as lts
+use Rattle.node.proofs.name.Reads as name-reads
+use Rattle.siblings.proofs.comes_before.Reads as comes-before-reads
 
 name-requires : tie.Need-name-requires
 name-requires c κs = search (laws, needs)

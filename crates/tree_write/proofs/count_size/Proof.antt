@@ -1,8 +1,10 @@
--- `tree_write::count_size` meets its contract. Every need follows from the laws of the definitions. Assumes nothing.
 use Rattle.tree_write.proofs.Laws.{laws}
 use borrow.Author.Needs.{needs}
 use Rattle.tree_write.proofs.count_size.Statement.{statement}
 use Rattle.tree_write.proofs.count_size.Tie as tie
+use Rattle.tree_write.proofs.count_size.Reads as reads
+use Rattle.tree_write.proofs.count_size.Lts as lts
+use Rattle.wire.proofs.decimal_size.Reads as decimal-size-reads
 
 returns : tie.Need-returns
 returns c = search (laws, needs)

@@ -1,8 +1,16 @@
--- `tree_write::head_size` meets its contract. Every need follows from the laws of the definitions. Assumes nothing.
 use Rattle.tree_write.proofs.Laws.{laws}
 use borrow.Author.Needs.{needs}
 use Rattle.tree_write.proofs.head_size.Statement.{statement}
 use Rattle.tree_write.proofs.head_size.Tie as tie
+use Rattle.tree_write.proofs.head_size.Reads as reads
+use Rattle.tree_write.proofs.head_size.Lts as lts
+use Rattle.node.proofs.count.Reads as count-reads
+use Rattle.node.proofs.name.Reads as name-reads
+use Rattle.node.proofs.subtrees.Reads as subtrees-reads
+use Rattle.sums.proofs.plus.Reads as plus-reads
+use Rattle.tree_write.proofs.count_size.Reads as count-size-reads
+use Rattle.tree_write.proofs.id_size.Reads as id-size-reads
+use Rattle.wire.proofs.decimal_size.Reads as decimal-size-reads
 
 name-requires : tie.Need-name-requires
 name-requires c κs = search (laws, needs)

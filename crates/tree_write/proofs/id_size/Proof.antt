@@ -1,8 +1,11 @@
--- `tree_write::id_size` meets its contract. Every need follows from the laws of the definitions. Assumes nothing.
 use Rattle.tree_write.proofs.Laws.{laws}
 use borrow.Author.Needs.{needs}
 use Rattle.tree_write.proofs.id_size.Statement.{statement}
 use Rattle.tree_write.proofs.id_size.Tie as tie
+use Rattle.tree_write.proofs.id_size.Reads as reads
+use Rattle.tree_write.proofs.id_size.Lts as lts
+use Rattle.node.proofs.count.Reads as count-reads
+use Rattle.node.proofs.id.Reads as id-reads
 
 count-requires : tie.Need-count-requires
 count-requires c κs = search (laws, needs)

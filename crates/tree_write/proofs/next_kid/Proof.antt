@@ -7,6 +7,9 @@ use borrow.Author.Needs.{needs}
 use Rattle.tree_write.proofs.Laws.{run-laws, run-more}
 use Rattle.tree_write.proofs.next_kid.Statement.{statement}
 use Rattle.tree_write.proofs.next_kid.Tie as tie
+use Rattle.tree_write.proofs.next_kid.Reads as reads
+use Rattle.tree_write.proofs.next_kid.Lts as lts
+use Rattle.tree_write.proofs.better_of.Reads as better-of-reads
 
 abbrev Inv-loop : tie.InvT-loop
 Inv-loop nodes names parent last n best₀ j₀ best j = (1 ≤ j) × (bestRun nodes names parent last (n - j) j best ≡ nextKid nodes names parent last)

@@ -1,8 +1,9 @@
--- `tree_write::put_byte` meets its contract. Every need follows from the laws of the definitions. Assumes nothing.
 use Rattle.tree_write.proofs.Laws.{laws}
 use borrow.Author.Needs.{needs}
 use Rattle.tree_write.proofs.put_byte.Statement.{statement}
 use Rattle.tree_write.proofs.put_byte.Tie as tie
+use Rattle.tree_write.proofs.put_byte.Reads as reads
+use Rattle.tree_write.proofs.put_byte.Lts as lts
 
 slice-write-out : tie.Need-slice-write-out
 slice-write-out c = search (laws, needs)

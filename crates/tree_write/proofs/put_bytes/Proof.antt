@@ -1,8 +1,10 @@
--- `tree_write::put_bytes` meets its contract. Every need follows from the laws of the definitions. Assumes nothing.
 use Rattle.tree_write.proofs.Laws.{laws}
 use borrow.Author.Needs.{needs}
 use Rattle.tree_write.proofs.put_bytes.Statement.{statement}
 use Rattle.tree_write.proofs.put_bytes.Tie as tie
+use Rattle.tree_write.proofs.put_bytes.Reads as reads
+use Rattle.tree_write.proofs.put_bytes.Lts as lts
+use Rattle.slices.proofs.copy_bytes.Reads as copy-bytes-reads
 
 copy-bytes-requires : tie.Need-copy-bytes-requires
 copy-bytes-requires c κs = search (laws, needs)

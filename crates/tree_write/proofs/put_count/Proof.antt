@@ -1,8 +1,11 @@
--- `tree_write::put_count` meets its contract. Every need follows from the laws of the definitions. Assumes nothing.
 use Rattle.tree_write.proofs.Laws.{laws}
 use borrow.Author.Needs.{needs}
 use Rattle.tree_write.proofs.put_count.Statement.{statement}
 use Rattle.tree_write.proofs.put_count.Tie as tie
+use Rattle.tree_write.proofs.put_count.Reads as reads
+use Rattle.tree_write.proofs.put_count.Lts as lts
+use Rattle.tree_write.proofs.put_byte.Reads as put-byte-reads
+use Rattle.wire.proofs.put_decimal.Reads as put-decimal-reads
 
 put-byte-requires : tie.Need-put-byte-requires
 put-byte-requires c κs = search (laws, needs)

@@ -1,8 +1,14 @@
--- `tree_write::put_front` meets its contract. Every need follows from the laws of the definitions. Assumes nothing.
 use Rattle.tree_write.proofs.Laws.{laws}
 use borrow.Author.Needs.{needs}
 use Rattle.tree_write.proofs.put_front.Statement.{statement}
 use Rattle.tree_write.proofs.put_front.Tie as tie
+use Rattle.tree_write.proofs.put_front.Reads as reads
+use Rattle.tree_write.proofs.put_front.Lts as lts
+use Rattle.node.proofs.count.Reads as count-reads
+use Rattle.node.proofs.name.Reads as name-reads
+use Rattle.tree_write.proofs.put_byte.Reads as put-byte-reads
+use Rattle.tree_write.proofs.put_bytes.Reads as put-bytes-reads
+use Rattle.tree_write.proofs.put_count.Reads as put-count-reads
 
 name-requires : tie.Need-name-requires
 name-requires c κs = search (laws, needs)

@@ -1,8 +1,12 @@
--- `tree_write::put_head` meets its contract. Every need follows from the laws of the definitions. Assumes nothing.
 use Rattle.tree_write.proofs.Laws.{laws}
 use borrow.Author.Needs.{needs}
 use Rattle.tree_write.proofs.put_head.Statement.{statement}
 use Rattle.tree_write.proofs.put_head.Tie as tie
+use Rattle.tree_write.proofs.put_head.Reads as reads
+use Rattle.tree_write.proofs.put_head.Lts as lts
+use Rattle.tree_write.proofs.put_front.Reads as put-front-reads
+use Rattle.tree_write.proofs.put_id.Reads as put-id-reads
+use Rattle.tree_write.proofs.put_numbers.Reads as put-numbers-reads
 
 put-front-requires : tie.Need-put-front-requires
 put-front-requires c κs = search (laws, needs)

@@ -1,8 +1,12 @@
--- `tree_write::put_id` meets its contract. Every need follows from the laws of the definitions. Assumes nothing.
 use Rattle.tree_write.proofs.Laws.{laws}
 use borrow.Author.Needs.{needs}
 use Rattle.tree_write.proofs.put_id.Statement.{statement}
 use Rattle.tree_write.proofs.put_id.Tie as tie
+use Rattle.tree_write.proofs.put_id.Reads as reads
+use Rattle.tree_write.proofs.put_id.Lts as lts
+use Rattle.node.proofs.count.Reads as count-reads
+use Rattle.node.proofs.id.Reads as id-reads
+use Rattle.tree_write.proofs.put_bytes.Reads as put-bytes-reads
 
 count-requires : tie.Need-count-requires
 count-requires c κs = search (laws, needs)

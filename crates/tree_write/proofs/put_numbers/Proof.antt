@@ -1,8 +1,12 @@
--- `tree_write::put_numbers` meets its contract. Every need follows from the laws of the definitions. Assumes nothing.
 use Rattle.tree_write.proofs.Laws.{laws, numbers-line}
 use borrow.Author.Needs.{needs}
 use Rattle.tree_write.proofs.put_numbers.Statement.{statement}
 use Rattle.tree_write.proofs.put_numbers.Tie as tie
+use Rattle.tree_write.proofs.put_numbers.Reads as reads
+use Rattle.tree_write.proofs.put_numbers.Lts as lts
+use Rattle.node.proofs.subtrees.Reads as subtrees-reads
+use Rattle.tree_write.proofs.put_byte.Reads as put-byte-reads
+use Rattle.wire.proofs.put_decimal.Reads as put-decimal-reads
 
 subtrees-requires : tie.Need-subtrees-requires
 subtrees-requires c κs = search (laws, needs)

@@ -1,9 +1,12 @@
--- `tree_write::put_tree` meets its contract. Every need follows from the laws of the definitions. Assumes nothing.
 use native.Mathlib.Omega.{arith}
 use Rattle.tree_write.proofs.Laws.{tree-laws, tree-fits, tree-done}
 use borrow.Author.Needs.{needs}
 use Rattle.tree_write.proofs.put_tree.Statement.{statement}
 use Rattle.tree_write.proofs.put_tree.Tie as tie
+use Rattle.tree_write.proofs.put_tree.Reads as reads
+use Rattle.tree_write.proofs.put_tree.Lts as lts
+use Rattle.tree_write.proofs.put_node.Reads as put-node-reads
+use Rattle.tree_write.proofs.tree_size.Reads as tree-size-reads
 
 returns : tie.Need-returns
 returns c = search (tree-laws, needs)

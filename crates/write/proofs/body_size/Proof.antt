@@ -1,8 +1,11 @@
--- `write::body_size` meets its contract. Every need follows from the laws of the definitions. Assumes nothing.
 use Rattle.write.proofs.Whole.{whole}
 use borrow.Author.Needs.{needs}
 use Rattle.write.proofs.body_size.Statement.{statement}
 use Rattle.write.proofs.body_size.Tie as tie
+use Rattle.write.proofs.body_size.Reads as reads
+use Rattle.write.proofs.body_size.Lts as lts
+use Rattle.sums.proofs.plus.Reads as plus-reads
+use Rattle.write.proofs.head_size.Reads as head-size-reads
 
 head-size-requires : tie.Need-head-size-requires
 head-size-requires c κs = search (whole, needs)

@@ -1,8 +1,12 @@
--- `write::fill` meets its contract. Every need follows from the laws of the definitions. Assumes nothing.
 use Rattle.write.proofs.Whole.{fills}
 use borrow.Author.Needs.{needs}
 use Rattle.write.proofs.fill.Statement.{statement}
 use Rattle.write.proofs.fill.Tie as tie
+use Rattle.write.proofs.fill.Reads as reads
+use Rattle.write.proofs.fill.Lts as lts
+use Rattle.write.proofs.fill_end.Reads as fill-end-reads
+use Rattle.write.proofs.fill_extensions.Reads as fill-extensions-reads
+use Rattle.write.proofs.fill_front.Reads as fill-front-reads
 
 fill-front-requires : tie.Need-fill-front-requires
 fill-front-requires c κs = search (fills, needs)

@@ -1,8 +1,11 @@
--- `write::fill_end` meets its contract. Every need follows from the laws of the definitions. Assumes nothing.
 use Rattle.write.proofs.Whole.{whole}
 use borrow.Author.Needs.{needs}
 use Rattle.write.proofs.fill_end.Statement.{statement}
 use Rattle.write.proofs.fill_end.Tie as tie
+use Rattle.write.proofs.fill_end.Reads as reads
+use Rattle.write.proofs.fill_end.Lts as lts
+use Rattle.write.proofs.extension.put_eoie.Reads as put-eoie-reads
+use Rattle.write.proofs.extension.put_trailer.Reads as put-trailer-reads
 
 put-eoie-requires : tie.Need-put-eoie-requires
 put-eoie-requires c κs = search (whole, needs)

@@ -1,8 +1,12 @@
--- `write::fill_extensions` meets its contract. Every need follows from the laws of the definitions. Assumes nothing.
 use Rattle.write.proofs.Whole.{whole, extensions-sparse}
 use borrow.Author.Needs.{needs}
 use Rattle.write.proofs.fill_extensions.Statement.{statement}
 use Rattle.write.proofs.fill_extensions.Tie as tie
+use Rattle.write.proofs.fill_extensions.Reads as reads
+use Rattle.write.proofs.fill_extensions.Lts as lts
+use Rattle.write.proofs.extension.put_sparse.Reads as put-sparse-reads
+use Rattle.write.proofs.extension.put_tree_head.Reads as put-tree-head-reads
+use Rattle.write.proofs.put_tree.Reads as put-tree-reads
 
 put-tree-head-requires : tie.Need-put-tree-head-requires
 put-tree-head-requires c κs = search (whole, needs)

@@ -1,8 +1,11 @@
--- `write::fill_front` meets its contract. Every need follows from the laws of the definitions. Assumes nothing.
 use Rattle.write.proofs.Whole.{whole}
 use borrow.Author.Needs.{needs}
 use Rattle.write.proofs.fill_front.Statement.{statement}
 use Rattle.write.proofs.fill_front.Tie as tie
+use Rattle.write.proofs.fill_front.Reads as reads
+use Rattle.write.proofs.fill_front.Lts as lts
+use Rattle.write.proofs.entries.put_entries.Reads as put-entries-reads
+use Rattle.write.proofs.put_header.Reads as put-header-reads
 
 put-header-requires : tie.Need-put-header-requires
 put-header-requires c κs = search (whole, needs)

@@ -1,8 +1,9 @@
--- `write::has_eoie` meets its contract. Every need follows from the laws of the definitions. Assumes nothing.
 use borrow.Author.Needs.{needs}
 use Rattle.write.proofs.Whole.{whole}
 use Rattle.write.proofs.has_eoie.Statement.{statement}
 use Rattle.write.proofs.has_eoie.Tie as tie
+use Rattle.write.proofs.has_eoie.Reads as reads
+use Rattle.write.proofs.has_eoie.Lts as lts
 
 returns : tie.Need-returns
 returns c = search (whole, needs)

@@ -1,8 +1,9 @@
--- `write::head_size` meets its contract. Every need follows from the laws of the definitions. Assumes nothing.
 use borrow.Author.Needs.{needs}
 use Rattle.write.proofs.Whole.{whole}
 use Rattle.write.proofs.head_size.Statement.{statement}
 use Rattle.write.proofs.head_size.Tie as tie
+use Rattle.write.proofs.head_size.Reads as reads
+use Rattle.write.proofs.head_size.Lts as lts
 
 returns : tie.Need-returns
 returns c = search (whole, needs)

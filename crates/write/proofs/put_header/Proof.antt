@@ -1,8 +1,11 @@
--- `write::put_header` meets its contract. Every need follows from the laws of the definitions. Assumes nothing.
 use Rattle.write.proofs.Whole.{whole}
 use borrow.Author.Needs.{needs}
 use Rattle.write.proofs.put_header.Statement.{statement}
 use Rattle.write.proofs.put_header.Tie as tie
+use Rattle.write.proofs.put_header.Reads as reads
+use Rattle.write.proofs.put_header.Lts as lts
+use Rattle.slices.proofs.copy_bytes.Reads as copy-bytes-reads
+use Rattle.wire.proofs.put32.Reads as put32-reads
 
 slice-aggregate-copy-bytes : tie.Need-slice-aggregate-copy-bytes
 slice-aggregate-copy-bytes c = search (whole, needs)

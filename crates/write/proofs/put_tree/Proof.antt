@@ -1,8 +1,10 @@
--- `write::put_tree` meets its contract. Every need follows from the laws of the definitions. Assumes nothing.
 use Rattle.write.proofs.Whole.{whole}
 use borrow.Author.Needs.{needs}
 use Rattle.write.proofs.put_tree.Statement.{statement}
 use Rattle.write.proofs.put_tree.Tie as tie
+use Rattle.write.proofs.put_tree.Reads as reads
+use Rattle.write.proofs.put_tree.Lts as lts
+use Rattle.tree_write.proofs.put_tree.Reads as put-tree-reads
 
 add-end : tie.Need-add-end
 add-end c = search (whole, needs)

@@ -1,8 +1,10 @@
--- `write::tree_fits` meets its contract. Every need follows from the laws of the definitions. Assumes nothing.
 use Rattle.write.proofs.Whole.{whole}
 use borrow.Author.Needs.{needs}
 use Rattle.write.proofs.tree_fits.Statement.{statement}
 use Rattle.write.proofs.tree_fits.Tie as tie
+use Rattle.write.proofs.tree_fits.Reads as reads
+use Rattle.write.proofs.tree_fits.Lts as lts
+use Rattle.tree_write.proofs.proper.is_proper.Reads as is-proper-reads
 
 is-proper-requires : tie.Need-is-proper-requires
 is-proper-requires c κs = search (whole, needs)

@@ -1,8 +1,10 @@
--- `write::tree_length` meets its contract. Every need follows from the laws of the definitions. Assumes nothing.
 use Rattle.write.proofs.Whole.{whole}
 use borrow.Author.Needs.{needs}
 use Rattle.write.proofs.tree_length.Statement.{statement}
 use Rattle.write.proofs.tree_length.Tie as tie
+use Rattle.write.proofs.tree_length.Reads as reads
+use Rattle.write.proofs.tree_length.Lts as lts
+use Rattle.tree_write.proofs.tree_size.Reads as tree-size-reads
 
 tree-size-requires : tie.Need-tree-size-requires
 tree-size-requires c κs = search (whole, needs)

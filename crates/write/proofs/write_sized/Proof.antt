@@ -1,9 +1,16 @@
--- `write::write_sized` meets its contract. Every need follows from the laws of the definitions. Assumes nothing.
 use native.Mathlib.Omega.{arith}
 use Rattle.write.proofs.Answers.{answers, end-bound, count-small, tree-small, tree-same, offset-small, file-room}
 use borrow.Author.Needs.{needs}
 use Rattle.write.proofs.write_sized.Statement.{statement}
 use Rattle.write.proofs.write_sized.Tie as tie
+use Rattle.write.proofs.write_sized.Reads as reads
+use Rattle.write.proofs.write_sized.Lts as lts
+use Rattle.entry.proofs.records_in.Reads as records-in-reads
+use Rattle.write.proofs.body_size.Reads as body-size-reads
+use Rattle.write.proofs.end_size.Reads as end-size-reads
+use Rattle.write.proofs.fill.Reads as fill-reads
+use Rattle.write.proofs.has_eoie.Reads as has-eoie-reads
+use Rattle.write.proofs.tree_length.Reads as tree-length-reads
 
 records-in-requires : tie.Need-records-in-requires
 records-in-requires c κs = search (answers, needs)

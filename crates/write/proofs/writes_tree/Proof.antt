@@ -1,8 +1,9 @@
--- `write::writes_tree` meets its contract. Every need follows from the laws of the definitions. Assumes nothing.
 use borrow.Author.Needs.{needs}
 use Rattle.write.proofs.Whole.{whole}
 use Rattle.write.proofs.writes_tree.Statement.{statement}
 use Rattle.write.proofs.writes_tree.Tie as tie
+use Rattle.write.proofs.writes_tree.Reads as reads
+use Rattle.write.proofs.writes_tree.Lts as lts
 
 returns : tie.Need-returns
 returns c = search (whole, needs)

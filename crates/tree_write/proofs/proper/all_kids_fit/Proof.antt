@@ -1,4 +1,3 @@
--- `tree_write::proper::all_kids_fit` meets its contract. The loop's invariant: what is left to do, from the present state, gives the whole answer. The measure is what is left of the table. Assumes nothing.
 use Prim.Native.Nat.{_-_}
 use mathlib.Core.Path.{_≡_}
 use Rattle.tree_write.specs.Proper.{allIn, kidsFit}
@@ -6,6 +5,9 @@ use borrow.Author.Needs.{needs}
 use Rattle.tree_write.proofs.Fits.{fits}
 use Rattle.tree_write.proofs.proper.all_kids_fit.Statement.{statement}
 use Rattle.tree_write.proofs.proper.all_kids_fit.Tie as tie
+use Rattle.tree_write.proofs.proper.all_kids_fit.Reads as reads
+use Rattle.tree_write.proofs.proper.all_kids_fit.Lts as lts
+use Rattle.tree_write.proofs.proper.kids_fit.Reads as kids-fit-reads
 
 abbrev Inv-loop : tie.InvT-loop
 Inv-loop nodes names n i₀ i = allIn (kidsFit nodes names) (n - i) i ≡ allIn (kidsFit nodes names) n 0

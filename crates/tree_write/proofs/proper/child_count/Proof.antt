@@ -1,10 +1,12 @@
--- `tree_write::proper::child_count` meets its contract. The loop's invariant: what is left to do, from the present state, gives the whole answer. The measure is what is left of the table. Assumes nothing.
 use Prim.Native.Nat.{_-_}
 use Rattle.tree_write.proofs.Fits.{Counting}
 use borrow.Author.Needs.{needs}
 use Rattle.tree_write.proofs.Fits.{fits}
 use Rattle.tree_write.proofs.proper.child_count.Statement.{statement}
 use Rattle.tree_write.proofs.proper.child_count.Tie as tie
+use Rattle.tree_write.proofs.proper.child_count.Reads as reads
+use Rattle.tree_write.proofs.proper.child_count.Lts as lts
+use Rattle.node.proofs.parent.Reads as parent-reads
 
 abbrev Inv-loop : tie.InvT-loop
 Inv-loop nodes p n count₀ j₀ count j = Counting nodes p n count j

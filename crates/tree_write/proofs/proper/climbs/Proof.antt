@@ -1,10 +1,12 @@
--- `tree_write::proper::climbs` meets its contract. The loop's invariant: what is left to do, from the present state, gives the whole answer. The measure is how many levels may still be climbed. Assumes nothing.
 use mathlib.Core.Path.{_≡_}
 use Rattle.tree_write.specs.Proper.{climbs}
 use borrow.Author.Needs.{needs}
 use Rattle.tree_write.proofs.Fits.{fits}
 use Rattle.tree_write.proofs.proper.climbs.Statement.{statement}
 use Rattle.tree_write.proofs.proper.climbs.Tie as tie
+use Rattle.tree_write.proofs.proper.climbs.Reads as reads
+use Rattle.tree_write.proofs.proper.climbs.Lts as lts
+use Rattle.node.proofs.parent.Reads as parent-reads
 
 abbrev Inv-loop : tie.InvT-loop
 Inv-loop nodes levels i node₀ left₀ node left = climbs nodes left node ≡ climbs nodes levels i

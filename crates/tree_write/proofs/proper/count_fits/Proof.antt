@@ -1,8 +1,10 @@
--- `tree_write::proper::count_fits` meets its contract. Every need follows from the laws of the definitions. Assumes nothing.
 use Rattle.tree_write.proofs.Fits.{fits}
 use borrow.Author.Needs.{needs}
 use Rattle.tree_write.proofs.proper.count_fits.Statement.{statement}
 use Rattle.tree_write.proofs.proper.count_fits.Tie as tie
+use Rattle.tree_write.proofs.proper.count_fits.Reads as reads
+use Rattle.tree_write.proofs.proper.count_fits.Lts as lts
+use Rattle.node.proofs.count.Reads as count-reads
 
 count-requires : tie.Need-count-requires
 count-requires c κs = search (fits, needs)

@@ -1,8 +1,10 @@
--- `tree_write::proper::holds_none` meets its contract. Every need follows from the laws of the definitions. Assumes nothing.
 use Rattle.tree_write.proofs.Fits.{fits}
 use borrow.Author.Needs.{needs}
 use Rattle.tree_write.proofs.proper.holds_none.Statement.{statement}
 use Rattle.tree_write.proofs.proper.holds_none.Tie as tie
+use Rattle.tree_write.proofs.proper.holds_none.Reads as reads
+use Rattle.tree_write.proofs.proper.holds_none.Lts as lts
+use Rattle.slices.proofs.first_nul.Reads as first-nul-reads
 
 first-nul-requires : tie.Need-first-nul-requires
 first-nul-requires c κs = search (fits, needs)

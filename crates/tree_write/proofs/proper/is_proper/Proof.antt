@@ -1,8 +1,11 @@
--- `tree_write::proper::is_proper` meets its contract. Every need follows from the laws of the definitions. Assumes nothing.
 use Rattle.tree_write.proofs.Fits.{fits}
 use borrow.Author.Needs.{needs}
 use Rattle.tree_write.proofs.proper.is_proper.Statement.{statement}
 use Rattle.tree_write.proofs.proper.is_proper.Tie as tie
+use Rattle.tree_write.proofs.proper.is_proper.Reads as reads
+use Rattle.tree_write.proofs.proper.is_proper.Lts as lts
+use Rattle.tree_write.proofs.proper.all_kids_fit.Reads as all-kids-fit-reads
+use Rattle.tree_write.proofs.proper.nodes_fit.Reads as nodes-fit-reads
 
 returns : tie.Need-returns
 returns c = search (fits, needs)

@@ -1,8 +1,12 @@
--- `tree_write::proper::kids_fit` meets its contract. Every need follows from the laws of the definitions. Assumes nothing.
 use Rattle.tree_write.proofs.Fits.{fits}
 use borrow.Author.Needs.{needs}
 use Rattle.tree_write.proofs.proper.kids_fit.Statement.{statement}
 use Rattle.tree_write.proofs.proper.kids_fit.Tie as tie
+use Rattle.tree_write.proofs.proper.kids_fit.Reads as reads
+use Rattle.tree_write.proofs.proper.kids_fit.Lts as lts
+use Rattle.node.proofs.subtrees.Reads as subtrees-reads
+use Rattle.siblings.proofs.siblings_differ.Reads as siblings-differ-reads
+use Rattle.tree_write.proofs.proper.child_count.Reads as child-count-reads
 
 subtrees-requires : tie.Need-subtrees-requires
 subtrees-requires c κs = search (fits, needs)

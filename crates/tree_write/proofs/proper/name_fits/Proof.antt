@@ -1,8 +1,12 @@
--- `tree_write::proper::name_fits` meets its contract. Every need follows from the laws of the definitions. Assumes nothing.
 use Rattle.tree_write.proofs.Fits.{fits}
 use borrow.Author.Needs.{needs}
 use Rattle.tree_write.proofs.proper.name_fits.Statement.{statement}
 use Rattle.tree_write.proofs.proper.name_fits.Tie as tie
+use Rattle.tree_write.proofs.proper.name_fits.Reads as reads
+use Rattle.tree_write.proofs.proper.name_fits.Lts as lts
+use Rattle.node.proofs.name.Reads as name-reads
+use Rattle.node.proofs.name_inside.Reads as name-inside-reads
+use Rattle.tree_write.proofs.proper.holds_none.Reads as holds-none-reads
 
 name-inside-requires : tie.Need-name-inside-requires
 name-inside-requires c κs = search (fits, needs)

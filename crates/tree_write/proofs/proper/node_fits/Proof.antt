@@ -1,8 +1,13 @@
--- `tree_write::proper::node_fits` meets its contract. Every need follows from the laws of the definitions. Assumes nothing.
 use Rattle.tree_write.proofs.Fits.{fits}
 use borrow.Author.Needs.{needs}
 use Rattle.tree_write.proofs.proper.node_fits.Statement.{statement}
 use Rattle.tree_write.proofs.proper.node_fits.Tie as tie
+use Rattle.tree_write.proofs.proper.node_fits.Reads as reads
+use Rattle.tree_write.proofs.proper.node_fits.Lts as lts
+use Rattle.tree_write.proofs.proper.climbs.Reads as climbs-reads
+use Rattle.tree_write.proofs.proper.count_fits.Reads as count-fits-reads
+use Rattle.tree_write.proofs.proper.name_fits.Reads as name-fits-reads
+use Rattle.tree_write.proofs.proper.parent_fits.Reads as parent-fits-reads
 
 parent-fits-requires : tie.Need-parent-fits-requires
 parent-fits-requires c κs = search (fits, needs)

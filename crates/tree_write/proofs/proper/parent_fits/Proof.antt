@@ -1,8 +1,10 @@
--- `tree_write::proper::parent_fits` meets its contract. Every need follows from the laws of the definitions. Assumes nothing.
 use Rattle.tree_write.proofs.Fits.{fits}
 use borrow.Author.Needs.{needs}
 use Rattle.tree_write.proofs.proper.parent_fits.Statement.{statement}
 use Rattle.tree_write.proofs.proper.parent_fits.Tie as tie
+use Rattle.tree_write.proofs.proper.parent_fits.Reads as reads
+use Rattle.tree_write.proofs.proper.parent_fits.Lts as lts
+use Rattle.node.proofs.parent.Reads as parent-reads
 
 parent-requires : tie.Need-parent-requires
 parent-requires c κs = search (fits, needs)

@@ -1,9 +1,15 @@
--- `write::entries::head_of` meets its contract. Every need follows from the laws of the definitions. Assumes nothing.
 use native.Mathlib.Omega.{arith}
 use Rattle.write.proofs.Laws.{stated-small, laws}
 use borrow.Author.Needs.{needs}
 use Rattle.write.proofs.entries.head_of.Statement.{statement}
 use Rattle.write.proofs.entries.head_of.Tie as tie
+use Rattle.write.proofs.entries.head_of.Reads as reads
+use Rattle.write.proofs.entries.head_of.Lts as lts
+use Rattle.entry.proofs.flags.extended_to_storage.Reads as extended-to-storage-reads
+use Rattle.entry.proofs.flags.to_storage.Reads as to-storage-reads
+use Rattle.slices.proofs.copy_bytes.Reads as copy-bytes-reads
+use Rattle.wire.proofs.put16.Reads as put16-reads
+use Rattle.write.proofs.entries.stated_length.Reads as stated-length-reads
 
 to-storage-requires : tie.Need-to-storage-requires
 to-storage-requires c κs = search (laws, needs)

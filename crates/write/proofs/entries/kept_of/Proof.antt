@@ -1,8 +1,11 @@
--- `write::entries::kept_of` meets its contract. Every need follows from the laws of the definitions. Assumes nothing.
 use Rattle.write.proofs.Laws.{laws}
 use borrow.Author.Needs.{needs}
 use Rattle.write.proofs.entries.kept_of.Statement.{statement}
 use Rattle.write.proofs.entries.kept_of.Tie as tie
+use Rattle.write.proofs.entries.kept_of.Reads as reads
+use Rattle.write.proofs.entries.kept_of.Lts as lts
+use Rattle.entry.proofs.flags.is_removed.Reads as is-removed-reads
+use Rattle.entry.proofs.flags_at.Reads as flags-at-reads
 
 flags-at-requires : tie.Need-flags-at-requires
 flags-at-requires c κs = search (laws, needs)

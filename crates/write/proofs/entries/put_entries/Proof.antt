@@ -1,9 +1,12 @@
--- `write::entries::put_entries` meets its contract. The loop's invariant: what is left to do, from the present state, gives the whole answer. The measure is what is left of the table. Assumes nothing.
 use Prim.Native.Nat.{_-_}
 use borrow.Author.Needs.{needs}
 use Rattle.write.proofs.Laws.{laws, Filling}
 use Rattle.write.proofs.entries.put_entries.Statement.{statement}
 use Rattle.write.proofs.entries.put_entries.Tie as tie
+use Rattle.write.proofs.entries.put_entries.Reads as reads
+use Rattle.write.proofs.entries.put_entries.Lts as lts
+use Rattle.entry.proofs.records_in.Reads as records-in-reads
+use Rattle.write.proofs.entries.put_record.Reads as put-record-reads
 
 abbrev Inv-loop : tie.InvT-loop
 Inv-loop records paths out₀ from n at₀ i₀ out at i = Filling records paths out₀ from n out at i

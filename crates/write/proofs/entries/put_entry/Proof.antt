@@ -1,8 +1,13 @@
--- `write::entries::put_entry` meets its contract. Every need follows from the laws of the definitions. Assumes nothing.
 use Rattle.write.proofs.Laws.{laws}
 use borrow.Author.Needs.{needs}
 use Rattle.write.proofs.entries.put_entry.Statement.{statement}
 use Rattle.write.proofs.entries.put_entry.Tie as tie
+use Rattle.write.proofs.entries.put_entry.Reads as reads
+use Rattle.write.proofs.entries.put_entry.Lts as lts
+use Rattle.slices.proofs.clear.Reads as clear-reads
+use Rattle.slices.proofs.copy_bytes.Reads as copy-bytes-reads
+use Rattle.write.proofs.entries.fixed_size.Reads as fixed-size-reads
+use Rattle.write.proofs.entries.head_of.Reads as head-of-reads
 
 fixed-size-requires : tie.Need-fixed-size-requires
 fixed-size-requires c κs = search (laws, needs)

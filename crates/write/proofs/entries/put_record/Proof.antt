@@ -1,8 +1,13 @@
--- `write::entries::put_record` meets its contract. Every need follows from the laws of the definitions. Assumes nothing.
 use Rattle.write.proofs.Laws.{laws}
 use borrow.Author.Needs.{needs}
 use Rattle.write.proofs.entries.put_record.Statement.{statement}
 use Rattle.write.proofs.entries.put_record.Tie as tie
+use Rattle.write.proofs.entries.put_record.Reads as reads
+use Rattle.write.proofs.entries.put_record.Lts as lts
+use Rattle.entry.proofs.flags.is_removed.Reads as is-removed-reads
+use Rattle.entry.proofs.flags_at.Reads as flags-at-reads
+use Rattle.entry.proofs.path_of.Reads as path-of-reads
+use Rattle.write.proofs.entries.put_entry.Reads as put-entry-reads
 
 flags-at-requires : tie.Need-flags-at-requires
 flags-at-requires c κs = search (laws, needs)

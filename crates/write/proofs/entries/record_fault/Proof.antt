@@ -1,8 +1,12 @@
--- `write::entries::record_fault` meets its contract. Every need follows from the laws of the definitions. Assumes nothing.
 use Rattle.write.proofs.Laws.{laws}
 use borrow.Author.Needs.{needs}
 use Rattle.write.proofs.entries.record_fault.Statement.{statement}
 use Rattle.write.proofs.entries.record_fault.Tie as tie
+use Rattle.write.proofs.entries.record_fault.Reads as reads
+use Rattle.write.proofs.entries.record_fault.Lts as lts
+use Rattle.entry.proofs.flags.is_removed.Reads as is-removed-reads
+use Rattle.entry.proofs.flags_at.Reads as flags-at-reads
+use Rattle.entry.proofs.lies_inside.Reads as lies-inside-reads
 
 flags-at-requires : tie.Need-flags-at-requires
 flags-at-requires c κs = search (laws, needs)

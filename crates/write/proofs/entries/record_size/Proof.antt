@@ -1,9 +1,14 @@
--- `write::entries::record_size` meets its contract. Every need follows from the laws of the definitions. Assumes nothing.
 use native.Mathlib.Omega.{arith}
 use Rattle.write.proofs.Laws.{laws, fixed-bound}
 use borrow.Author.Needs.{needs}
 use Rattle.write.proofs.entries.record_size.Statement.{statement}
 use Rattle.write.proofs.entries.record_size.Tie as tie
+use Rattle.write.proofs.entries.record_size.Reads as reads
+use Rattle.write.proofs.entries.record_size.Lts as lts
+use Rattle.entry.proofs.flags.is_removed.Reads as is-removed-reads
+use Rattle.entry.proofs.flags_at.Reads as flags-at-reads
+use Rattle.entry.proofs.path_of.Reads as path-of-reads
+use Rattle.write.proofs.entries.fixed_size.Reads as fixed-size-reads
 
 flags-at-requires : tie.Need-flags-at-requires
 flags-at-requires c κs = search (laws, needs)

@@ -1,10 +1,18 @@
--- `write::entries::size_entries` meets its contract. The loop's invariant: what is left to do, from the present state, gives the whole answer. The measure is what is left of the table. Assumes nothing.
 use native.Mathlib.Omega.{arith}
 use Prim.Native.Nat.{_-_}
 use borrow.Author.Needs.{needs}
 use Rattle.write.proofs.Laws.{kept-small, laws, Sizing}
 use Rattle.write.proofs.entries.size_entries.Statement.{statement}
 use Rattle.write.proofs.entries.size_entries.Tie as tie
+use Rattle.write.proofs.entries.size_entries.Reads as reads
+use Rattle.write.proofs.entries.size_entries.Lts as lts
+use Rattle.entry.proofs.flags_at.Reads as flags-at-reads
+use Rattle.entry.proofs.records_in.Reads as records-in-reads
+use Rattle.sums.proofs.plus.Reads as plus-reads
+use Rattle.write.proofs.entries.kept_of.Reads as kept-of-reads
+use Rattle.write.proofs.entries.record_fault.Reads as record-fault-reads
+use Rattle.write.proofs.entries.record_size.Reads as record-size-reads
+use Rattle.write.proofs.entries.version_with.Reads as version-with-reads
 
 abbrev Inv-loop : tie.InvT-loop
 Inv-loop records paths n version₀ count₀ size₀ i₀ version count size i = Sizing records paths n version count size i

@@ -1,8 +1,9 @@
--- `write::entries::stated_length` meets its contract. Every need follows from the laws of the definitions. Assumes nothing.
 use Rattle.write.proofs.Laws.{laws}
 use borrow.Author.Needs.{needs}
 use Rattle.write.proofs.entries.stated_length.Statement.{statement}
 use Rattle.write.proofs.entries.stated_length.Tie as tie
+use Rattle.write.proofs.entries.stated_length.Reads as reads
+use Rattle.write.proofs.entries.stated_length.Lts as lts
 
 cast-result : tie.Need-cast-result
 cast-result c = search (laws, needs)

@@ -1,8 +1,10 @@
--- `write::entries::version_with` meets its contract. Every need follows from the laws of the definitions. Assumes nothing.
 use Rattle.write.proofs.Laws.{laws}
 use borrow.Author.Needs.{needs}
 use Rattle.write.proofs.entries.version_with.Statement.{statement}
 use Rattle.write.proofs.entries.version_with.Tie as tie
+use Rattle.write.proofs.entries.version_with.Reads as reads
+use Rattle.write.proofs.entries.version_with.Lts as lts
+use Rattle.entry.proofs.flags.is_extended.Reads as is-extended-reads
 
 is-extended-requires : tie.Need-is-extended-requires
 is-extended-requires c κs = search (laws, needs)

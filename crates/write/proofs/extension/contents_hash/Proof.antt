@@ -1,4 +1,3 @@
--- `write::extension::contents_hash` meets its contract. Every need follows from the laws of the definitions. Assumes nothing.
 use mathlib.Core.Path.{sym}
 use native.Mathlib.Omega.{arith}
 use lib.Seq.{length-take-le}
@@ -6,6 +5,11 @@ use Rattle.write.proofs.Laws.{parts}
 use borrow.Author.Needs.{needs}
 use Rattle.write.proofs.extension.contents_hash.Statement.{statement}
 use Rattle.write.proofs.extension.contents_hash.Tie as tie
+use Rattle.write.proofs.extension.contents_hash.Reads as reads
+use Rattle.write.proofs.extension.contents_hash.Lts as lts
+use Rattle.sha1.proofs.sha1_of.Reads as sha1-of-reads
+use Rattle.write.proofs.extension.put_sparse.Reads as put-sparse-reads
+use Rattle.write.proofs.extension.put_tree_head.Reads as put-tree-head-reads
 
 slice-aggregate-put-tree-head : tie.Need-slice-aggregate-put-tree-head
 slice-aggregate-put-tree-head c = search (parts, needs)

@@ -1,8 +1,13 @@
--- `write::extension::put_eoie` meets its contract. Every need follows from the laws of the definitions. Assumes nothing.
 use Rattle.write.proofs.Laws.{parts, eoie-hash, eoie-hash-room}
 use borrow.Author.Needs.{needs}
 use Rattle.write.proofs.extension.put_eoie.Statement.{statement}
 use Rattle.write.proofs.extension.put_eoie.Tie as tie
+use Rattle.write.proofs.extension.put_eoie.Reads as reads
+use Rattle.write.proofs.extension.put_eoie.Lts as lts
+use Rattle.slices.proofs.copy_bytes.Reads as copy-bytes-reads
+use Rattle.wire.proofs.put32.Reads as put32-reads
+use Rattle.write.proofs.extension.contents_hash.Reads as contents-hash-reads
+use Rattle.write.proofs.extension.put_head.Reads as put-head-reads
 
 contents-hash-requires : tie.Need-contents-hash-requires
 contents-hash-requires c κs = search (parts, needs)

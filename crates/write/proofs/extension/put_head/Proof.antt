@@ -1,8 +1,11 @@
--- `write::extension::put_head` meets its contract. Every need follows from the laws of the definitions. Assumes nothing.
 use Rattle.write.proofs.Laws.{parts}
 use borrow.Author.Needs.{needs}
 use Rattle.write.proofs.extension.put_head.Statement.{statement}
 use Rattle.write.proofs.extension.put_head.Tie as tie
+use Rattle.write.proofs.extension.put_head.Reads as reads
+use Rattle.write.proofs.extension.put_head.Lts as lts
+use Rattle.slices.proofs.copy_bytes.Reads as copy-bytes-reads
+use Rattle.wire.proofs.put32.Reads as put32-reads
 
 slice-aggregate-copy-bytes : tie.Need-slice-aggregate-copy-bytes
 slice-aggregate-copy-bytes c = search (parts, needs)

@@ -1,4 +1,3 @@
--- `write::extension::put_trailer` meets its contract. Every need follows from the laws of the definitions. Assumes nothing.
 use mathlib.Core.Path.{sym}
 use native.Mathlib.Omega.{arith}
 use lib.Seq.{length-take-le}
@@ -6,6 +5,11 @@ use Rattle.write.proofs.Laws.{parts}
 use borrow.Author.Needs.{needs}
 use Rattle.write.proofs.extension.put_trailer.Statement.{statement}
 use Rattle.write.proofs.extension.put_trailer.Tie as tie
+use Rattle.write.proofs.extension.put_trailer.Reads as reads
+use Rattle.write.proofs.extension.put_trailer.Lts as lts
+use Rattle.sha1.proofs.sha1_of.Reads as sha1-of-reads
+use Rattle.slices.proofs.clear.Reads as clear-reads
+use Rattle.slices.proofs.copy_bytes.Reads as copy-bytes-reads
 
 clear-requires : tie.Need-clear-requires
 clear-requires c κs = search (parts, needs)

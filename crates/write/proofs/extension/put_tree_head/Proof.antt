@@ -1,8 +1,10 @@
--- `write::extension::put_tree_head` meets its contract. Every need follows from the laws of the definitions. Assumes nothing.
 use Rattle.write.proofs.Laws.{parts}
 use borrow.Author.Needs.{needs}
 use Rattle.write.proofs.extension.put_tree_head.Statement.{statement}
 use Rattle.write.proofs.extension.put_tree_head.Tie as tie
+use Rattle.write.proofs.extension.put_tree_head.Reads as reads
+use Rattle.write.proofs.extension.put_tree_head.Lts as lts
+use Rattle.write.proofs.extension.put_head.Reads as put-head-reads
 
 put-head-requires : tie.Need-put-head-requires
 put-head-requires c κs = search (parts, needs)
