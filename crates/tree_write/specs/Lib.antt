@@ -3,3 +3,4 @@ pub mod Order
 pub mod Tree
 pub mod Kids
 pub mod Proper
+pub mod Table

@@ -19,7 +19,8 @@ use Rattle.write.specs.declared.entries.Sized.{Sized}
 use Rattle.write.specs.declared.entries.Sized.the-variants as sized
 use Rattle.write.specs.Entries.{isGone, tableBytes, keptOf, countOf, anyExtended, First, found, nowhere, firstFault, onFirst, sizeTable}
 use Rattle.write.specs.Size.{size-is}
-use Rattle.write.proofs.Whole.{length-body, body-size, length-eoie-part, length-trailer}
+use Rattle.write.specs.Parts.{length-trailer}
+use Rattle.write.proofs.Whole.{length-body, body-size, length-eoie-part}
 use Rattle.write.specs.File.{versionOf, headSize, endSize, contents, eoiePart, trailerOf, bodyOf, offsetOf, closedOf, fileOf, writesTree, hasEoie, treeOf, treeFits, bodyBytes, fileBytes, Counted, most, outcome, writeFile, writeAll}
 
 -- ---- counts

@@ -22,6 +22,7 @@ use Rattle.write.specs.declared.entries.Sized.the-variants.{Of, Outside}
 use Rattle.write.specs.Entries.{isGone, faultOf, stated, fixedOf, frontAt, flagBytes, padOf, wholeOf, entryOf, recordBytes, beforeAt, entriesBytes, tableBytes, keptOf, versionWith, sizeRun, sizeTable}
 use Rattle.write.specs.File.{extensionHead, treeSignature, sparseSignature, eoieSignature, treeHead, sparsePart, contents, eoiePart, trailerOf}
 use Rattle.write.specs.Hash.{length-sha1}
+use Rattle.write.specs.Parts.{length-head, length-eoie}
 use Rattle.write.specs.Size.{length-front, length-flags, length-entry}
 
 -- ---- one record
@@ -323,10 +324,6 @@ module _ (rs ps : List ℕ) (n version count size i : ℕ) (inv : Sizing rs ps n
 
 -- ---- an extension's head
 
-pub length-head : (signature : List ℕ) (size : ℕ) → length signature ≡ 4 → length (extensionHead signature size) ≡ 8
-unfolding extensionHead
-length-head signature size l = length-append signature (bytesOf 4 size) ∙ omega (arith, length-bytes 4 size)
-
 pub head-put : (d d₁ d₂ signature : List ℕ) (k size : ℕ) → length signature ≡ 4 → k + 8 ≤ length d → d₁ ≡ paste d k signature 4 → d₂ ≡ paste d₁ (k + 4) (bytesOf 4 size) 4 → d₂ ≡ put d k (extensionHead signature size)
 unfolding extensionHead
 head-put d d₁ d₂ signature k size l room e₁ e₂ =
@@ -427,31 +424,25 @@ module _ (writes : Bool) (size : ℕ) (sparse : Bool) (d : List ℕ) (z : d ≡ 
 -- ---- EOIE
 
 module _ (has : Bool) (offset : ℕ) (toc : List ℕ) where
-  pub length-eoie : has ≡ true → length (eoiePart 20 sha1 has offset toc) ≡ 32
-  unfolding eoiePart
-  length-eoie h =
-      rw h
-      (omega (arith, length-append (extensionHead eoieSignature 24 ++ bytesOf 4 offset) (sha1 toc), length-append (extensionHead eoieSignature 24) (bytesOf 4 offset), length-head eoieSignature 24 refl, length-bytes 4 offset, length-sha1 toc))
-
   module _ (h : has ≡ true) (k : ℕ) (d : List ℕ) (room : k + length (eoiePart 20 sha1 has offset toc) ≤ length d) where
     pub eoie-head-room : k + 8 ≤ length d
-    eoie-head-room = omega (arith, length-eoie h)
+    eoie-head-room = omega (arith, length-eoie has offset toc h)
 
     module _ (b : ℕ) (eb : b ≡ k + 8) (d₁ : List ℕ) (e₁ : d₁ ≡ put d k (extensionHead eoieSignature 24)) where
       same₁ : length d₁ ≡ length d
       same₁ = ap length e₁ ∙ length-put d (extensionHead eoieSignature 24) k (omega (arith, length-head eoieSignature 24 refl, eoie-head-room))
 
       pub eoie-offset-room : b + 4 ≤ length d₁
-      eoie-offset-room = omega (arith, length-eoie h, same₁)
+      eoie-offset-room = omega (arith, length-eoie has offset toc h, same₁)
 
       pub eoie-hash-room : (d₂ : List ℕ) → d₂ ≡ paste d₁ b (bytesOf 4 offset) 4 → b + 4 + 20 ≤ length d₂
-      eoie-hash-room d₂ e₂ = omega (arith, length-eoie h, same₁, ap length e₂, length-paste d₁ b (bytesOf 4 offset) 4 eoie-offset-room (omega (arith, length-bytes 4 offset)))
+      eoie-hash-room d₂ e₂ = omega (arith, length-eoie has offset toc h, same₁, ap length e₂, length-paste d₁ b (bytesOf 4 offset) 4 eoie-offset-room (omega (arith, length-bytes 4 offset)))
 
   pub eoie-hash : (hash : List ℕ) → hash ≡ sha1 toc → 0 + 20 ≤ length hash
   eoie-hash hash e = omega (arith, ap length e, length-sha1 toc)
 
   pub eoie-next : has ≡ true → (k b : ℕ) → b ≡ k + 8 → b + 4 + 20 ≡ k + length (eoiePart 20 sha1 has offset toc)
-  eoie-next h k b e = omega (arith, length-eoie h)
+  eoie-next h k b e = omega (arith, length-eoie has offset toc h)
 
   pub eoie-put : has ≡ true → (d d₁ d₂ d₃ hash : List ℕ) (k b : ℕ) → k + length (eoiePart 20 sha1 has offset toc) ≤ length d → hash ≡ sha1 toc → b ≡ k + 8 → d₁ ≡ put d k (extensionHead eoieSignature 24) → d₂ ≡ paste d₁ b (bytesOf 4 offset) 4 → d₃ ≡ paste d₂ (b + 4) hash 20
       → d₃ ≡ put d k (eoiePart 20 sha1 has offset toc)

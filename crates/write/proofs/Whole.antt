@@ -18,7 +18,8 @@ use Rattle.tree_write.specs.Proper.{isProper}
 use Rattle.write.specs.declared.Options.{Options}
 use Rattle.write.specs.Hash.{length-sha1}
 use Rattle.write.specs.Entries.{tableBytes}
-use Rattle.write.proofs.Laws.{length-head, length-eoie, eoie-none}
+use Rattle.write.proofs.Laws.{eoie-none}
+use Rattle.write.specs.Parts.{length-header, length-tree-head, length-sparse, length-eoie, length-trailer}
 use Rattle.write.specs.File.{headerOf, treeSignature, sparseSignature, headSize, endSize, treeHead, sparsePart, contents, eoiePart, trailerOf, endOf, frontOf, extensionsOf, bodyOf, closedOf, fileOf, writesTree, hasEoie, treeOf, treeFits}
 
 -- ---- what is asked for
@@ -94,11 +95,6 @@ tree-end t n k e = omega arith
 
 then-put : (d d₁ d₂ a b : List ℕ) (k k₁ : ℕ) → d₁ ≡ put d k a → k₁ ≡ k + length a → d₂ ≡ put d₁ k₁ b → k ≤ length d → d₂ ≡ put d k (a ++ b)
 then-put d d₁ d₂ a b k k₁ e₁ p₁ e₂ room = e₂ ∙ (λ j. put (e₁ j) (p₁ j) b) ∙ put-put d a b k room
-
-pub length-header : (version count : ℕ) → length (headerOf version count) ≡ 12
-unfolding headerOf
-length-header version count =
-    omega (arith, length-append ((68 ∷ 73 ∷ 82 ∷ 67 ∷ []) ++ bytesOf 4 version) (bytesOf 4 count), length-append (68 ∷ 73 ∷ 82 ∷ 67 ∷ []) (bytesOf 4 version), length-bytes 4 version, length-bytes 4 count)
 
 pub header-put : (d d₁ d₂ d₃ : List ℕ) (version count : ℕ) → 12 ≤ length d → d₁ ≡ paste d 0 (68 ∷ 73 ∷ 82 ∷ 67 ∷ []) 4 → d₂ ≡ paste d₁ 4 (bytesOf 4 version) 4 → d₃ ≡ paste d₂ 8 (bytesOf 4 count) 4 → d₃ ≡ put d 0 (headerOf version count)
 unfolding headerOf
@@ -178,11 +174,6 @@ module _ (writes : Bool) (t : List ℕ) (sparse : Bool) where
 
 -- ---- EOIE and the trailer
 
-pub length-trailer : (skips : Bool) (x : List ℕ) → length (trailerOf 20 sha1 skips x) ≡ 20
-unfolding trailerOf
-length-trailer true x = length-replicate {A = ℕ} 20 0
-length-trailer false x = length-sha1 x
-
 module _ (skips : Bool) (d e : List ℕ) (k : ℕ) (room : k + (length e + 20) ≤ length d) where
   pub end-eoie : k + length e ≤ length d
   end-eoie = omega arith
@@ -221,16 +212,6 @@ module _ (there : Bool) where
 pub sizes-sum : (front tree h l a b r : ℕ) (writes sparse : Bool) → h ≡ headSize writes → l ≡ headSize sparse → a ≡ cap (front + h) → b ≡ cap (a + tree) → r ≡ cap (b + l) → r ≡ cap (cap (cap (front + headSize writes) + tree) + headSize sparse)
 sizes-sum front tree h l a b r writes sparse eh el ea eb er =
     er ∙ (λ j. cap (eb j + el j)) ∙ (λ j. cap (cap (ea j + tree) + headSize sparse)) ∙ ap (λ (x : ℕ). cap (cap (cap (front + x) + tree) + headSize sparse)) eh
-
-pub length-tree-head : (writes : Bool) (n : ℕ) → length (treeHead writes n) ≡ headSize writes
-unfolding treeHead headSize
-length-tree-head true n = length-head treeSignature n refl
-length-tree-head false n = refl
-
-pub length-sparse : (sparse : Bool) → length (sparsePart sparse) ≡ headSize sparse
-unfolding sparsePart headSize
-length-sparse true = length-head sparseSignature 0 refl
-length-sparse false = refl
 
 pub length-eoie-part : (has : Bool) (offset : ℕ) (toc : List ℕ) → length (eoiePart 20 sha1 has offset toc) + 20 ≡ endSize 20 has
 unfolding endSize
