@@ -1,8 +1,8 @@
 -- Laws of what a proper table is, turned the way that the needs ask. Assumes nothing.
 use mathlib.Core.Bool.{Bool, true, false}
-use mathlib.Core.Path.{_≡_, refl, sym, ap, _∙_}
+use mathlib.Core.Path.{_≡_, sym, ap, _∙_}
 use mathlib.Core.List.{List}
-use Prim.Native.Nat.{ℕ, zero, suc, _+_, _-_, _*_, _/_, _≤_, _<_}
+use Prim.Native.Nat.{ℕ, suc, _+_, _-_, _≤_, _<_}
 use native.Mathlib.Nat.{sub-zero}
 use native.Mathlib.Omega.{arith}
 use lib.Dec.{ltb, eqb}
@@ -15,7 +15,7 @@ use Rattle.slices.specs.declared.Ends.the-variants.{With, Never}
 use Rattle.node.specs.Head.{countHalf, minusOne}
 use Rattle.node.specs.Store.{nodesIn, countAt, subtreesAt, parentAt, nameInside, nameAt}
 use Rattle.siblings.specs.Siblings.{isChild, siblingsDiffer}
-use Rattle.tree_write.specs.Proper.{parentFits, countFits, isNever, holdsNone, nameFits, climbs, nodeFits, childCount, kidsFit, allIn, nodesFit, allKidsFit, isProper}
+use Rattle.tree_write.specs.Proper.{parentFits, countFits, holdsNone, nameFits, climbs, nodeFits, childCount, kidsFit, allIn, nodesFit, allKidsFit, isProper}
 
 -- ---- one node
 

@@ -2,16 +2,14 @@
 use mathlib.Core.Bool.{Bool, true, false}
 use mathlib.Core.Path.{_≡_, refl, sym, ap, _∙_, subst}
 use mathlib.Core.List.{List, [], _∷_, _++_}
-use Prim.Native.Nat.{ℕ, zero, suc, _+_, _-_, _*_, _/_, _≤_, _<_}
+use Prim.Native.Nat.{ℕ, suc, _+_, _-_, _/_, _≤_, _<_}
 use native.Mathlib.Nat.{pos-of-ne-zero}
 use native.Mathlib.Omega.{arith}
-use lib.Dec.{ltb, eqb}
 use lib.ListN.{length, set, length-append}
 use lib.Seq.{paste}
 use borrow.Author.Tests.{lt-ltb, le-ltb, le-leb, lt-leb, eq-eqb, ne-eqb}
-use Rattle.laws.specs.Pick.{pick}
 use Rattle.laws.specs.Put.{put, put-none, put-put, length-put, paste-put, set-put}
-use Rattle.laws.specs.Order.{Comparison, below, equal, beyond, compared, Compares, is-below, is-equal, is-beyond, compares, before-below, before-beyond, compared-same}
+use Rattle.laws.specs.Order.{Comparison, below, equal, beyond, compared, Compares, is-below, is-equal, is-beyond, compares, before-below, compared-same}
 use Rattle.sums.specs.Cap.{largest, cap, cap-fits, cap-small, cap-le, cap-below, cap-cap}
 use Rattle.wire.specs.Written.{digitsOf}
 use Rattle.node.specs.Head.{minusOne}

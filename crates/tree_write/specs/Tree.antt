@@ -1,9 +1,9 @@
 -- The bytes of a tree (01, Extensions and Writing, and tree/write.rs), over the length of an id and the depth: a node's head, its children in byte order of name,
 -- and a node with all that is below it. Defined for every table; only a proper one is written. Assumes nothing.
-use mathlib.Core.Bool.{Bool, true, false}
+use mathlib.Core.Bool.{Bool, true}
 use mathlib.Core.List.{List, [], _∷_, _++_}
 use Prim.Native.Nat.{ℕ, zero, suc, _+_, _-_}
-use lib.Dec.{ltb, leb, eqb}
+use lib.Dec.{leb, eqb}
 use lib.ListN.{length}
 use Rattle.laws.specs.Pick.{pick}
 use Rattle.laws.specs.Put.{put}

@@ -1,15 +1,14 @@
 -- Each answer of the writer, from what its passes found. Assumes nothing.
-use Prim.Native.Nat.{ℕ, zero, suc, _+_, _-_, _≤_, _<_}
+use Prim.Native.Nat.{ℕ, zero, suc, _+_, _≤_, _<_}
 use mathlib.Core.Bool.{Bool, true, false}
-use mathlib.Core.Path.{_≡_, refl, sym, ap, _∙_, subst}
-use mathlib.Core.List.{List, [], _∷_, _++_}
+use mathlib.Core.Path.{_≡_, refl, sym, ap, _∙_}
+use mathlib.Core.List.{List, _++_}
 use native.Mathlib.Omega.{arith}
-use lib.Dec.{ltb}
 use lib.ListN.{length, drop, length-append}
 use borrow.Author.Tests.{lt-ltb, le-ltb}
 use Rattle.laws.specs.Pick.{pick}
 use Rattle.laws.specs.Put.{put, put-front}
-use Rattle.sums.specs.Cap.{largest, cap, cap-fits, cap-le, cap-below}
+use Rattle.sums.specs.Cap.{cap, cap-fits, cap-le, cap-below}
 use Rattle.sha1.specs.Sha1.{sha1}
 use Rattle.entry.specs.Record.{recordsIn}
 use Rattle.write.specs.declared.Options.{Options}
@@ -17,7 +16,7 @@ use Rattle.write.specs.declared.Answer.{Answer}
 use Rattle.write.specs.declared.Answer.the-variants.{Done, PathOutside, NotProper, TooLarge, ShortOutput}
 use Rattle.write.specs.declared.entries.Sized.{Sized}
 use Rattle.write.specs.declared.entries.Sized.the-variants as sized
-use Rattle.write.specs.Entries.{isGone, tableBytes, keptOf, countOf, anyExtended, First, found, nowhere, firstFault, onFirst, sizeTable}
+use Rattle.write.specs.Entries.{isGone, tableBytes, keptOf, countOf, First, found, nowhere, firstFault, onFirst, sizeTable}
 use Rattle.write.specs.Size.{size-is}
 use Rattle.write.specs.Parts.{length-trailer}
 use Rattle.write.proofs.Whole.{length-body, body-size, length-eoie-part}

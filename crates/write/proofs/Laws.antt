@@ -1,8 +1,8 @@
 -- Laws of the writer's definitions, turned the way that the needs ask. Assumes nothing.
-use Prim.Native.Nat.{ℕ, zero, suc, _+_, _-_, _*_, _/_, _%_, _^_, _≤_, _<_}
+use Prim.Native.Nat.{ℕ, suc, _+_, _-_, _*_, _/_, _%_, _≤_, _<_}
 use mathlib.Core.Bool.{Bool, true, false}
 use mathlib.Core.Path.{_≡_, refl, sym, ap, _∙_}
-use mathlib.Core.List.{List, [], _∷_, _++_, append-assoc, append-nil}
+use mathlib.Core.List.{List, [], _++_, append-assoc, append-nil}
 use native.Mathlib.Nat.{sub-zero}
 use native.Mathlib.Omega.{arith}
 use lib.Dec.{ltb}
@@ -19,7 +19,7 @@ use Rattle.entry.specs.Flags.{bit, extended, removed, toStorage, extendedToStor
 use Rattle.entry.specs.Record.{recordsIn, flagsAt, liesInside, pathAt}
 use Rattle.write.specs.declared.entries.Sized.{Sized}
 use Rattle.write.specs.declared.entries.Sized.the-variants.{Of, Outside}
-use Rattle.write.specs.Entries.{isGone, faultOf, stated, fixedOf, frontAt, flagBytes, padOf, wholeOf, entryOf, recordBytes, beforeAt, entriesBytes, tableBytes, keptOf, versionWith, sizeRun, sizeTable}
+use Rattle.write.specs.Entries.{isGone, faultOf, stated, fixedOf, frontAt, flagBytes, wholeOf, entryOf, recordBytes, beforeAt, entriesBytes, tableBytes, keptOf, versionWith, sizeRun, sizeTable}
 use Rattle.write.specs.File.{extensionHead, treeSignature, sparseSignature, eoieSignature, treeHead, sparsePart, contents, eoiePart, trailerOf}
 use Rattle.write.specs.Hash.{length-sha1}
 use Rattle.write.specs.Parts.{length-head, length-eoie}

@@ -1,26 +1,24 @@
 -- Laws of the whole file, turned the way that the needs ask. Assumes nothing.
-use Prim.Native.Nat.{ℕ, zero, suc, _+_, _-_, _≤_, _<_}
+use Prim.Native.Nat.{ℕ, _+_, _≤_, _<_}
 use mathlib.Core.Bool.{Bool, true, false}
 use mathlib.Core.Path.{_≡_, refl, sym, ap, _∙_}
 use mathlib.Core.List.{List, [], _∷_, _++_, append-assoc}
 use native.Mathlib.Omega.{arith}
-use lib.Dec.{ltb}
-use lib.ListN.{length, take, drop, replicate, length-append, length-replicate}
+use lib.ListN.{length, take, drop, length-append}
 use lib.Seq.{paste, take-at, length-take-le}
 use borrow.Author.Tests.{lt-ltb, le-ltb, le-leb}
 use Rattle.laws.specs.Pick.{pick}
 use Rattle.laws.specs.Put.{put, put-none, put-front, put-put, length-put, paste-put}
 use Rattle.wire.specs.BigEndian.{bytesOf, length-bytes}
-use Rattle.sums.specs.Cap.{largest, cap, cap-fits, cap-le, cap-below, cap-cap, cap-cap-right}
+use Rattle.sums.specs.Cap.{cap, cap-fits, cap-cap, cap-cap-right}
 use Rattle.sha1.specs.Sha1.{sha1}
 use Rattle.tree_write.specs.Tree.{treeBytes, putFit}
 use Rattle.tree_write.specs.Proper.{isProper}
 use Rattle.write.specs.declared.Options.{Options}
-use Rattle.write.specs.Hash.{length-sha1}
 use Rattle.write.specs.Entries.{tableBytes}
 use Rattle.write.proofs.Laws.{eoie-none}
-use Rattle.write.specs.Parts.{length-header, length-tree-head, length-sparse, length-eoie, length-trailer}
-use Rattle.write.specs.File.{headerOf, treeSignature, sparseSignature, headSize, endSize, treeHead, sparsePart, contents, eoiePart, trailerOf, endOf, frontOf, extensionsOf, bodyOf, closedOf, fileOf, writesTree, hasEoie, treeOf, treeFits}
+use Rattle.write.specs.Parts.{length-header, length-tree-head, length-sparse, length-eoie}
+use Rattle.write.specs.File.{headerOf, headSize, endSize, treeHead, sparsePart, contents, eoiePart, trailerOf, endOf, frontOf, extensionsOf, bodyOf, closedOf, fileOf, writesTree, hasEoie, treeOf, treeFits}
 
 -- ---- what is asked for
 

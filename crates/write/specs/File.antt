@@ -1,6 +1,6 @@
 -- The whole file as it is written (01, Writing, and write.rs, tree/write.rs, end_of_index_entry/write.rs), over the length of an id and its hash: header, entries,
 -- TREE, `sdir`, EOIE and the trailer, one after the other; and what the writer answers. Assumes nothing.
-use Prim.Native.Nat.{ℕ, _+_, _-_}
+use Prim.Native.Nat.{ℕ, _+_}
 use mathlib.Core.Bool.{Bool, true, false}
 use mathlib.Core.Path.{_≡_}
 use mathlib.Core.List.{List, [], _∷_, _++_}
@@ -16,7 +16,7 @@ use Rattle.tree_write.specs.Proper.{isProper}
 use Rattle.write.specs.declared.Options.{Options}
 use Rattle.write.specs.declared.Answer.{Answer}
 use Rattle.write.specs.declared.Answer.the-variants.{Done, PathOutside, NotProper, TooLarge, ShortOutput}
-use Rattle.write.specs.Entries.{First, firstFault, onFirst, headerSize, countOf, anyExtended, tableBytes}
+use Rattle.write.specs.Entries.{firstFault, onFirst, headerSize, countOf, anyExtended, tableBytes}
 
 -- ---- the parts
 

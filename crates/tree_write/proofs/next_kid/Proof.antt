@@ -1,7 +1,7 @@
 -- `tree_write::next_kid` meets its contract. The loop's invariant: the pass over what is left, from the best so far, gives the whole answer. Assumes nothing.
 use native.Mathlib.Omega.{arith}
 use mathlib.Core.Path.{_≡_}
-use Prim.Native.Nat.{ℕ, _≤_, _<_, _-_}
+use Prim.Native.Nat.{_≤_, _-_}
 use Rattle.tree_write.specs.Tree.{bestRun, nextKid}
 use borrow.Author.Needs.{needs}
 use Rattle.tree_write.proofs.Laws.{run-laws, run-more}
