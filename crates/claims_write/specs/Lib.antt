@@ -7,3 +7,4 @@ pub mod Spelled
 pub mod Reading
 pub mod Kept
 pub mod Claims
+pub mod Tree
