@@ -8,3 +8,4 @@ pub mod Reading
 pub mod Kept
 pub mod Claims
 pub mod Tree
+pub mod Trees

@@ -12,6 +12,7 @@ use lib.ListN.{length, take, drop, length-append}
 use borrow.Author.Tests.{lt-ltb, ltb-true, eqb-true, eqb-false, eq-eqb, ne-eqb}
 use Rattle.laws.specs.Pick.{pick}
 use Rattle.laws.specs.Lists.{length-part}
+use Rattle.laws.specs.Order.{Before}
 use Rattle.laws.specs.Tests.{lt-or-ge, tri, Less, less, not-less, less?, Same, same, differs, same?}
 use Rattle.slices.specs.Bytes.{nulIn, nulAt}
 use Rattle.slices.specs.declared.Ends.{Ends}
@@ -21,7 +22,7 @@ use Rattle.node.specs.Head.{minusOne, countHalf}
 use Rattle.node.specs.Store.{nodesIn, countAt, subtreesAt, parentAt, idAt, nameInside, nameAt}
 use Rattle.siblings.specs.Siblings.{isChild, siblingsDiffer}
 use Rattle.siblings.specs.InOrder.{Distinct as DistinctAt, differ-distinct}
-use Rattle.tree_write.specs.Order.{before, false-true, before-not}
+use Rattle.tree_write.specs.Order.{before, false-true, before-not, before-names}
 use Rattle.tree_write.specs.Tree.{after, countBytes, frontBytes, numberBytes, idBytes, headBytes, kids, each, nodeBytes}
 use Rattle.tree_write.specs.Proper.{parentFits, countFits, isNever, holdsNone, nameFits, climbs, nodeFits, childCount, kidsFit, allIn, nodesFit, isProper}
 use Rattle.tree_write.specs.Kids.{Mem, here, there, Rising, done, more, top, tally-all, cand, goes}
@@ -326,6 +327,39 @@ distinct-names name R irr done h = no-names
 distinct-names name R irr (more {x = x} {xs = l} r rest) h =
     one-more (other-names name x l (λ y m e. irr x (subst (R x) (sym (h x y here (there m) e)) (r y m)))) (distinct-names name R irr rest (λ y z a b e. h y z (there a) (there b) e))
 
+deepest-small : (t : ℕ → ℕ → Tree) (b : ℕ → List ℕ) (l : List ℕ) (place d : ℕ) → ((p j : ℕ) → Mem j l → depth (t p j) ≤ d) → deepest (subtreesOf t b place l) ≤ d
+unfolding subtreesOf
+deepest-small t b [] place d h = omega arith
+deepest-small t b (j ∷ js) place d h = omega (arith, h place j here, deepest-small t b js (place + length (b j)) d (λ p k m. h p k (there m)))
+
+-- ---- SIBLINGS IN BYTE ORDER OF NAME
+
+-- each name comes before the next
+pub data RisingNames : List (List ℕ) → Type 0 where
+  no-name : RisingNames []
+  one-name : {name : List ℕ} → RisingNames (name ∷ [])
+  then-name : {name name₁ : List ℕ} {more : List (List ℕ)} → Before name name₁ → RisingNames (name₁ ∷ more) → RisingNames (name ∷ (name₁ ∷ more))
+
+mutual
+  -- the names of a node's subtrees rise, and so below each of them
+  pub data Sorted : Tree → Type 0 where
+    sorted : {place : ℕ} {name : List ℕ} {count : Count} {id : List ℕ} {subtrees : Subtrees} → RisingNames (names subtrees) → AllSorted subtrees → Sorted (tree place name count id subtrees)
+
+  pub data AllSorted : Subtrees → Type 0 where
+    none-sorted : AllSorted childless
+    both-sorted : {t : Tree} {ts : Subtrees} → Sorted t → AllSorted ts → AllSorted (beside t ts)
+
+all-sorted : (t : ℕ → ℕ → Tree) (b : ℕ → List ℕ) (l : List ℕ) (place : ℕ) → ((p j : ℕ) → Mem j l → Sorted (t p j)) → AllSorted (subtreesOf t b place l)
+unfolding subtreesOf
+all-sorted t b [] place h = none-sorted
+all-sorted t b (j ∷ js) place h = both-sorted (h place j here) (all-sorted t b js (place + length (b j)) (λ p k m. h p k (there m)))
+
+rising-names : (ns nm : List ℕ) {l : List ℕ} → Rising (λ x y. before ns nm x y ≡ true) l → ((x y : ℕ) → Mem x l → Mem y l → nameAt nm ns x ≡ nameAt nm ns y → x ≡ y) → RisingNames (map (nameAt nm ns) l)
+rising-names ns nm done h = no-name
+rising-names ns nm (more r done) h = one-name
+rising-names ns nm (more {x = x} r (more {x = y} q rest)) h =
+    then-name (before-names ns nm x y (r y here) (h x y here (there here))) (rising-names ns nm (more q rest) (λ a b m k e. h a b (there m) (there k) e))
+
 module _ (n limit : ℕ) (ns nm : List ℕ) (small : n ≤ 32) (few : length ns < 2 ^ 64) (proper : isProper limit ns nm ≡ true) where
   same-name : (i : ℕ) → i < nodesIn ns → (x y : ℕ) → Mem x (kidsOf ns nm i) → Mem y (kidsOf ns nm i) → nameAt nm ns x ≡ nameAt nm ns y → x ≡ y
   same-name i h x y a b e =
@@ -354,3 +388,31 @@ module _ (n limit : ℕ) (ns nm : List ℕ) (small : n ≤ 32) (few : length ns 
   -- THE TREE: what is written of a proper table is its tree
   pub tree-spelled : (place : ℕ) → Node n place (nodeBytes n ns nm limit 0) (treeAt n ns nm limit place 0)
   tree-spelled place = node-spelled limit 1 0 place (some-node limit ns nm proper) root (omega arith)
+
+  -- ---- it is no deeper than the limit
+
+  depth-small : (d k i place : ℕ) → i < nodesIn ns → Level ns k i → k + d ≡ limit + 1 → depth (treeAt n ns nm d place i) ≤ d
+  unfolding treeAt
+  depth-small zero k i place h l e = absurd (omega (arith, level-within l limit (good-node limit ns nm proper i h .climb)))
+  depth-small (suc d) k i place h l e =
+      let inner : (p j : ℕ) → Mem j (kidsOf ns nm i) → depth (treeAt n ns nm d p j) ≤ d = λ p j m. let (a, b, c) = kids-are ns nm i j m in depth-small d (suc k) j p b (below a c l) (omega arith) in
+      omega (arith, deepest-small (treeAt n ns nm d) (nodeBytes n ns nm d) (kidsOf ns nm i) (place + length (headBytes n ns nm i)) d inner)
+
+  pub tree-shallow : (place : ℕ) → depth (treeAt n ns nm limit place 0) ≤ limit
+  tree-shallow place = depth-small limit 1 0 place (some-node limit ns nm proper) root (omega arith)
+
+  -- ---- siblings stand in byte order of name
+
+  sorted-at : (d k i place : ℕ) → i < nodesIn ns → Level ns k i → k + d ≡ limit + 1 → Sorted (treeAt n ns nm d place i)
+  unfolding treeAt
+  sorted-at zero k i place h l e = absurd (omega (arith, level-within l limit (good-node limit ns nm proper i h .climb)))
+  sorted-at (suc d) k i place h l e =
+      let inner : (p j : ℕ) → Mem j (kidsOf ns nm i) → Sorted (treeAt n ns nm d p j) = λ p j m. let (a, b, c) = kids-are ns nm i j m in sorted-at d (suc k) j p b (below a c l) (omega arith) in
+      let start : ℕ = place + length (headBytes n ns nm i) in
+      sorted
+      (subst RisingNames (sym (names-of (nameAt nm ns) (treeAt n ns nm d) (nodeBytes n ns nm d) (kidsOf ns nm i) start (name-at n ns nm d)))
+      (rising-names ns nm (kids-rise ns nm i) (same-name i h)))
+      (all-sorted (treeAt n ns nm d) (nodeBytes n ns nm d) (kidsOf ns nm i) start inner)
+
+  pub tree-sorted : (place : ℕ) → Sorted (treeAt n ns nm limit place 0)
+  tree-sorted place = sorted-at limit 1 0 place (some-node limit ns nm proper) root (omega arith)
