@@ -7,3 +7,5 @@ pub mod Spelled
 pub mod Reading
 pub mod Kept
 pub mod Claims
+pub mod Tree
+pub mod Trees
