@@ -140,6 +140,7 @@ impl Judge {
         other.rows.iter().for_each(|(r, n)| *self.rows.entry(*r).or_default() += n);
         other.classes.iter().for_each(|(c, n)| *self.classes.entry(c).or_default() += n);
         self.alike += other.alike;
+        self.failures += other.failures;
     }
     fn class(&mut self, name: &'static str) {
         *self.classes.entry(name).or_default() += 1;

@@ -28,7 +28,7 @@ pub const ROWS: [(Row, &str); 11] = [
     (Row::D2, "D2   a V4 number above 2^64 - 1"),
     (Row::D3, "D3   field 4095: padding behind the NUL"),
     (Row::D4, "D4   a V4 entry that reaches into the last 20 bytes"),
-    (Row::D4Padded, "D4   the same in V2 and V3"),
+    (Row::D4Padded, "D4b  the same in V2 and V3"),
     (Row::D5, "D5   an extension's header right before the trailer, swallowed"),
     (Row::D6, "D6   a trailer that is not the hash"),
     (Row::D7, "D7   stray bytes, or an extension cut short"),
