@@ -4,3 +4,4 @@ pub mod Header
 pub mod Said
 pub mod Reading
 pub mod Claims
+pub mod Example

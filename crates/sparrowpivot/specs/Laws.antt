@@ -12,6 +12,9 @@ use Rattle.laws.specs.Lists.{length-part}
 use Rattle.wire.specs.Places.{fileAt}
 use Rattle.wire.specs.declared.FileAt.{FileAt}
 use Rattle.wire.specs.declared.PathAt.{PathAt}
+use Rattle.refusal.specs.Refusal.{not-spelled, no-entry-room, no-stage, path-outside, not-after}
+use Rattle.measure.specs.Entry.{idLength}
+use Rattle.decode.specs.Header.{headerSize}
 use Rattle.decode.specs.Entries as entries
 use Rattle.decode.specs.declared.entries.Answer.{Answer as Ran}
 use Rattle.decode.specs.declared.entries.Answer.the-variants as ran
@@ -25,7 +28,7 @@ use Rattle.decode.specs.declared.entries.Extensions.the-variants.{From, NotTold
 use Rattle.entry.specs.Record.{recordsIn, modeAt, flagsAt, stageAt, startAt, endAt, liesInside}
 use Rattle.entry.specs.Stat.{statAt}
 use Rattle.entry.specs.declared.stat.Stat.{Stat}
-use Rattle.node.specs.Store.{nodesIn, nameStartAt, nameEndAt, countAt, subtreesAt, parentAt, idAt}
+use Rattle.node.specs.Store.{nodeSize, idPlace, nodesIn, nameStartAt, nameEndAt, countAt, subtreesAt, parentAt, idAt}
 use Rattle.access.specs.declared.Found.{Found}
 use Rattle.access.specs.declared.Found.the-variants as found
 use Rattle.access.specs.declared.verify.Verified.{Verified}
@@ -54,22 +57,22 @@ told-read {a} {rs} {ps} {ns} p q e = (λ k. told (p k) (q k) (rs ∷ ps ∷ ns �
 pub values-read : {a : Answer} {version records paths nodes m t : ℕ} {sparse tree : Bool} → a ≡ answer.Read version sparse tree records paths nodes → m ≡ bit sparse → t ≡ bit tree → _≡_ {A = List ℕ} (version ∷ m ∷ t ∷ records ∷ paths ∷ nodes ∷ 0 ∷ 0 ∷ []) (readValues a)
 values-read {version} {records} {paths} {nodes} q b d = (λ k. version ∷ b k ∷ d k ∷ records ∷ paths ∷ nodes ∷ 0 ∷ 0 ∷ []) ∙ sym (ap readValues q)
 
-module _ (s rs₀ ps₀ rs ps : List ℕ) (version count end : ℕ) (a : Ran) (e : entries.outcome a rs ps ≡ entries.readEntries 20 s (fileAt end) version count 0 (fileAt 12) begin rs₀ ps₀) (at-end : end ≡ length s - 20) where
+module _ (s rs₀ ps₀ rs ps : List ℕ) (version count end : ℕ) (a : Ran) (e : entries.outcome a rs ps ≡ entries.readEntries idLength s (fileAt end) version count 0 (fileAt headerSize) begin rs₀ ps₀) (at-end : end ≡ length s - idLength) where
   abbrev whole : Told
-  whole = tellEntries (entries.readEntries 20 s (fileAt (length s - 20)) version count 0 (fileAt 12) begin rs₀ ps₀)
+  whole = tellEntries (entries.readEntries idLength s (fileAt (length s - idLength)) version count 0 (fileAt headerSize) begin rs₀ ps₀)
 
   as-told : {x : Ran} → a ≡ x → tellEntries (entries.outcome x rs ps) ≡ whole
   as-told q =
       sym (ap (λ (x : Ran). tellEntries (entries.outcome x rs ps)) q) ∙ ap tellEntries e
-      ∙ ap (λ (x : ℕ). tellEntries (entries.readEntries 20 s (fileAt x) version count 0 (fileAt 12) begin rs₀ ps₀)) at-end
+      ∙ ap (λ (x : ℕ). tellEntries (entries.readEntries idLength s (fileAt x) version count 0 (fileAt headerSize) begin rs₀ ps₀)) at-end
 
   pub told-done : {next : FileAt} {used : PathAt} {n : ℕ} {sparse : Bool} → a ≡ ran.Done next used sparse → n ≡ bit sparse → told 0 (three (next .0) (used .0) n) (rs ∷ ps ∷ []) ≡ whole
   told-done {next} {used} q b = (λ k. told 0 (three (next .0) (used .0) (b k)) (rs ∷ ps ∷ [])) ∙ as-told q
 
-  pub told-not-spelled : {k : ℕ} → a ≡ ran.NotSpelled k → told 5 (one k) (rs ∷ ps ∷ []) ≡ whole
+  pub told-not-spelled : {k : ℕ} → a ≡ ran.NotSpelled k → told not-spelled (one k) (rs ∷ ps ∷ []) ≡ whole
   told-not-spelled = as-told
 
-  pub told-no-room : {k : ℕ} → a ≡ ran.NoRoom k → told 6 (one k) (rs ∷ ps ∷ []) ≡ whole
+  pub told-no-room : {k : ℕ} → a ≡ ran.NoRoom k → told no-entry-room (one k) (rs ∷ ps ∷ []) ≡ whole
   told-no-room = as-told
 
 -- ---- searching
@@ -81,20 +84,20 @@ module _ {a b : Found} where
   pub told-absent : {k : ℕ} → a ≡ found.Absent k → a ≡ b → told 0 (three 0 0 k) [] ≡ tellFound b
   told-absent = alike tellFound
 
-  pub told-no-stage : a ≡ found.NoStage → a ≡ b → told 11 (one 0) [] ≡ tellFound b
+  pub told-no-stage : a ≡ found.NoStage → a ≡ b → told no-stage (one 0) [] ≡ tellFound b
   told-no-stage = alike tellFound
 
-  pub told-outside : {i : ℕ} → a ≡ found.PathOutside i → a ≡ b → told 12 (one i) [] ≡ tellFound b
+  pub told-outside : {i : ℕ} → a ≡ found.PathOutside i → a ≡ b → told path-outside (one i) [] ≡ tellFound b
   told-outside = alike tellFound
 
 module _ {a b : Verified} where
   pub told-sorted : a ≡ verified.Sorted → a ≡ b → told 0 (one 0) [] ≡ tellVerified b
   told-sorted = alike tellVerified
 
-  pub told-path-outside : {i : ℕ} → a ≡ verified.PathOutside i → a ≡ b → told 12 (one i) [] ≡ tellVerified b
+  pub told-path-outside : {i : ℕ} → a ≡ verified.PathOutside i → a ≡ b → told path-outside (one i) [] ≡ tellVerified b
   told-path-outside = alike tellVerified
 
-  pub told-not-after : {i : ℕ} → a ≡ verified.NotAfter i → a ≡ b → told 13 (one i) [] ≡ tellVerified b
+  pub told-not-after : {i : ℕ} → a ≡ verified.NotAfter i → a ≡ b → told not-after (one i) [] ≡ tellVerified b
   told-not-after = alike tellVerified
 
 -- ---- extensions
@@ -127,8 +130,8 @@ module _ (from offset : ℕ) where
   pub is-told : (from ≡ 0 → ⊥) → From offset ≡ extensionsFrom from offset
   is-told h = sym (rw (ne-eqb from 0 h))
 
-pub told-most : (size version : ℕ) {r : ℕ} {x y : Extensions} → x ≡ y → r ≡ maxEntries size x version 20 → r ≡ maxEntries size y version 20
-told-most size version q e = e ∙ ap (λ (z : Extensions). maxEntries size z version 20) q
+pub told-most : (size version : ℕ) {r : ℕ} {x y : Extensions} → x ≡ y → r ≡ maxEntries size x version idLength → r ≡ maxEntries size y version idLength
+told-most size version q e = e ∙ ap (λ (z : Extensions). maxEntries size z version idLength) q
 
 -- ---- tables
 
@@ -148,18 +151,18 @@ module _ (ns : List ℕ) (i : ℕ) where
       let is-there = t ∙ ap (λ (x : ℕ). bit (ltb i x)) n in
       (λ k. told 0 (a k .0 ∷ b k .0 ∷ c k ∷ d k ∷ e k ∷ is-there k ∷ 0 ∷ 0 ∷ []) [])
 
-  pub no-id : {n : ℕ} → n ≡ nodesIn ns → n ≤ i → replicate 20 0 ≡ nodeId ns i
+  pub no-id : {n : ℕ} → n ≡ nodesIn ns → n ≤ i → replicate idLength 0 ≡ nodeId ns i
   unfolding nodeId
   no-id e h = sym (rw (le-ltb i (nodesIn ns) (omega arith)))
 
-  id-length : i < nodesIn ns → length (idAt 20 ns i) ≡ 20
+  id-length : i < nodesIn ns → length (idAt idLength ns i) ≡ 20
   unfolding idAt
-  id-length h = rw (lt-ltb i (nodesIn ns) h) (length-part 20 (i * 72 + 40) ns (omega arith))
+  id-length h = rw (lt-ltb i (nodesIn ns) h) (length-part idLength (i * nodeSize + idPlace) ns (omega arith))
 
-  pub id-long : {n : ℕ} {part : List ℕ} → part ≡ idAt 20 ns i → n ≡ nodesIn ns → i < n → 20 ≤ length part
+  pub id-long : {n : ℕ} {part : List ℕ} → part ≡ idAt idLength ns i → n ≡ nodesIn ns → i < n → 20 ≤ length part
   id-long p e h = omega (arith, ap length p, id-length (omega arith))
 
-  pub id-copied : (part d : List ℕ) {r : List ℕ} {n : ℕ} → r ≡ paste d 0 part 20 → length d ≡ 20 → part ≡ idAt 20 ns i → n ≡ nodesIn ns → i < n → r ≡ nodeId ns i
+  pub id-copied : (part d : List ℕ) {r : List ℕ} {n : ℕ} → r ≡ paste d 0 part 20 → length d ≡ 20 → part ≡ idAt idLength ns i → n ≡ nodesIn ns → i < n → r ≡ nodeId ns i
   unfolding nodeId
   id-copied part d q l p e h =
       let small : i < nodesIn ns = omega arith in

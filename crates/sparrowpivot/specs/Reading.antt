@@ -7,15 +7,11 @@ use Rattle.decode.specs.Entries as entries
 use Rattle.decode.specs.declared.entries.Before.{Before}
 use Rattle.decode.specs.declared.entries.Answer.{Answer as Ran}
 use Rattle.decode.specs.declared.entries.Answer.the-variants.{Done, NotSpelled, NoRoom}
-use Rattle.file.specs.Answer.{numberOf, carriedOf}
+use Rattle.file.specs.Answer.{numberOf}
 use Rattle.file.specs.Read.{Outcome}
 use Rattle.file.specs.declared.Answer.{Answer}
 use Rattle.file.specs.declared.Answer.the-variants as answer
 use Rattle.sparrowpivot.specs.Told.{Told, told, bit, one, three}
-
--- how deep a tree may be
-abbrev pub depthLimit : ℕ
-depthLimit = 64
 
 -- what was read; of a refusal what it carries, 0 where that is nothing
 abbrev pub readValues : Answer → List ℕ

@@ -5,10 +5,12 @@ ghost use Prim.Native.Nat.{_-_};
 ghost use lib.ListN.{length};
 ghost use Rattle.wire.specs.Places.{fileAt};
 ghost use Rattle.measure.specs.Entry.{idLength};
+ghost use Rattle.decode.specs.Header.{headerSize};
 ghost use Rattle.decode.specs.Entries.{readEntries};
+ghost use Rattle.tree.specs.Tree.{depthLimit};
 ghost use Rattle.file.specs.Read.{readFile};
 ghost use Rattle.sparrowpivot.specs.Told.{told};
-ghost use Rattle.sparrowpivot.specs.Reading.{begin, depthLimit, readValues, tellRead, tellEntries};
+ghost use Rattle.sparrowpivot.specs.Reading.{begin, readValues, tellRead, tellEntries};
 use decode::entries::Answer as Ran;
 use decode::entries::Before;
 use file::Answer;
@@ -85,7 +87,7 @@ pub extern "C" fn sparrowpivot_entries(
     paths: &mut [u8],
     values: &mut [u64; 8],
 ) -> u32
-    ensures { λ r. ⌜ told r (now (values .exit)) (now (records .exit) ∷ now (paths .exit) ∷ []) ≡ tellEntries (readEntries idLength (now (file .entry)) (fileAt (length (now (file .entry)) - idLength)) version count 0 (fileAt 12) begin (now (records .entry)) (now (paths .entry))) ⌝ }
+    ensures { λ r. ⌜ told r (now (values .exit)) (now (records .exit) ∷ now (paths .exit) ∷ []) ≡ tellEntries (readEntries idLength (now (file .entry)) (fileAt (length (now (file .entry)) - idLength)) version count 0 (fileAt headerSize) begin (now (records .entry)) (now (paths .entry))) ⌝ }
 {
     let end = before_trailer(file.len());
     let before = Before {

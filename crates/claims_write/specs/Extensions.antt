@@ -1,0 +1,134 @@
+-- What the writer writes behind the entries is spelled by the grammar as extensions: TREE, `sdir` and EOIE, those that are there, in this order. Assumes nothing.
+use Prim.Native.Nat.{ℕ, _+_, _^_, _≤_, _<_}
+use mathlib.Core.Path.{_≡_, refl, sym, ap, _∙_, subst}
+use mathlib.Core.Bool.{Bool, true, false}
+use mathlib.Core.List.{List, [], _∷_, _++_, append-assoc, append-nil}
+use mathlib.Core.Option.{Option, none, some}
+use native.Mathlib.Omega.{arith}
+use lib.Dec.{lit<}
+use lib.ListN.{length, getD, length-append}
+use Rattle.laws.specs.Pick.{pick}
+use Rattle.laws.specs.Fill.{Fill, done, more}
+use Rattle.wire.specs.BigEndian.{bytesOf, length-bytes}
+use Rattle.grammar.specs.Extension.{Ext, ext, Framed, framed, Mandatory, sdir, TREE, Allowed, optional, empty-sdir, Extension, Extensions, NoneSigned, none-left, another, LastSigned, last-signed, extensionHeader}
+use Rattle.grammar.specs.Tree.{Tree, Node}
+use Rattle.grammar.specs.DecideTree.{readTree, SaysTree, tree-says}
+use Rattle.grammar.specs.File.{Some, this, other, Tells, it-is, it-is-not, CacheTree, spelled, malformed, absent}
+use Rattle.claims_extension.specs.Said.{HasSdir}
+use Rattle.write.specs.File.{extensionHead, treeSignature, sparseSignature, eoieSignature, treeHead, sparsePart, eoiePart, extensionsOf}
+use Rattle.claims_write.specs.Entries.{big}
+
+-- ---- THE MEANING
+
+-- "EOIE"
+abbrev pub EOIE : List ℕ
+EOIE = 69 ∷ 79 ∷ 73 ∷ 69 ∷ []
+
+-- the extensions of a file: TREE with its body, `sdir`, and EOIE with its body, each if it is there
+abbrev pub extensionsMeant : Bool → List ℕ → Bool → Bool → List ℕ → List Ext
+extensionsMeant writes tree sparse has body = pick writes (ext TREE tree ∷ []) [] ++ (pick sparse (ext sdir [] ∷ []) [] ++ pick has (ext EOIE body ∷ []) [])
+
+-- ---- each of them
+
+fill-append : {b c : List ℕ} {vs ws : List Ext} → Fill Extension b vs → Fill Extension c ws → Fill Extension (b ++ c) (vs ++ ws)
+fill-append done y = y
+fill-append {c = d} (more {b = b} {c = c} x t) y = rw (append-assoc b c d) (more x (fill-append t y))
+
+one : {b : List ℕ} {e : Ext} → Extension b e → Fill Extension b (e ∷ [])
+one {b} {e} x = subst (λ (c : List ℕ). Fill Extension c (e ∷ [])) (append-nil b) (more x done)
+
+framed-here : (signature body : List ℕ) → length signature ≡ 4 → length body < 2 ^ 32 → Framed (extensionHead signature (length body) ++ body) (ext signature body)
+unfolding extensionHead
+framed-here signature body l h = rw (append-assoc signature (bytesOf 4 (length body)) body) (framed l (big 4 (length body) h))
+
+-- a first byte below 97
+not-mandatory : (signature : List ℕ) → getD signature 0 0 < 97 → Mandatory signature → ⊥
+not-mandatory signature h m = omega (arith, m .least)
+
+tree-part : (writes : Bool) (tree : List ℕ) → (writes ≡ true → length tree < 2 ^ 32) → Fill Extension (treeHead writes (length (pick writes tree [])) ++ pick writes tree []) (pick writes (ext TREE tree ∷ []) [])
+unfolding treeHead
+tree-part false tree h = done
+tree-part true tree h = one (record { is-framed = framed-here TREE tree refl (h refl); is-allowed = optional (not-mandatory TREE (lit< tt)) })
+
+sparse-part : (sparse : Bool) → Fill Extension (sparsePart sparse) (pick sparse (ext sdir [] ∷ []) [])
+unfolding sparsePart
+sparse-part false = done
+sparse-part true = one (record { is-framed = subst (λ (b : List ℕ). Framed b (ext sdir [])) (append-nil (extensionHead sdir 0)) (framed-here sdir [] refl (lit< tt)); is-allowed = empty-sdir })
+
+eoie-part : (id : ℕ) (hash : List ℕ → List ℕ) (has : Bool) (offset : ℕ) (toc : List ℕ) → id < 2 ^ 31 → length (hash toc) ≡ id
+    → Fill Extension (eoiePart id hash has offset toc) (pick has (ext EOIE (bytesOf 4 offset ++ hash toc) ∷ []) [])
+unfolding eoiePart
+eoie-part id hash false offset toc h l = done
+eoie-part id hash true offset toc h l =
+    let body : List ℕ = bytesOf 4 offset ++ hash toc in
+    let k : length body ≡ 4 + id = length-append (bytesOf 4 offset) (hash toc) ∙ omega (arith, length-bytes 4 offset) in
+    let f : Framed (extensionHead EOIE (length body) ++ body) (ext EOIE body) = framed-here EOIE body refl (omega arith) in
+    let e : extensionHead EOIE (length body) ++ body ≡ (extensionHead EOIE (4 + id) ++ bytesOf 4 offset) ++ hash toc =
+    ap (λ (j : ℕ). extensionHead EOIE j ++ body) k ∙ sym (append-assoc (extensionHead EOIE (4 + id)) (bytesOf 4 offset) (hash toc)) in
+    one (record { is-framed = subst (λ (b : List ℕ). Framed b (ext EOIE body)) e f; is-allowed = optional (not-mandatory EOIE (lit< tt)) })
+
+-- ---- all of them
+
+pub extensions-spelled : (id : ℕ) (hash : List ℕ → List ℕ) (writes : Bool) (tree : List ℕ) (sparse has : Bool) (offset : ℕ) (toc : List ℕ) → (writes ≡ true → length tree < 2 ^ 32) → id < 2 ^ 31 → length (hash toc) ≡ id
+    → Extensions (extensionsOf writes (pick writes tree []) sparse ++ eoiePart id hash has offset toc) (extensionsMeant writes tree sparse has (bytesOf 4 offset ++ hash toc))
+unfolding extensionsOf
+extensions-spelled id hash writes tree sparse has offset toc h k l =
+    let a : List ℕ = treeHead writes (length (pick writes tree [])) ++ pick writes tree [] in
+    rw (append-assoc a (sparsePart sparse) (eoiePart id hash has offset toc))
+    (fill-append (tree-part writes tree h) (fill-append (sparse-part sparse) (eoie-part id hash has offset toc k l)))
+
+-- ---- the mark
+
+some-length : {P : Ext → Type 0} {es : List Ext} → Some P es → 0 < length es
+some-length (this x) = omega arith
+some-length (other x) = omega arith
+
+no-more : HasSdir [] → ⊥
+no-more x = omega (arith, some-length x)
+
+pub marks-sdir : (writes : Bool) (tree : List ℕ) (sparse has : Bool) (body : List ℕ) → Tells (HasSdir (extensionsMeant writes tree sparse has body)) sparse
+marks-sdir writes tree sparse has body = go writes sparse has
+  where
+    skip : {e : Ext} {es : List Ext} {t : Bool} → (e .signature ≡ sdir → ⊥) → Tells (HasSdir es) t → Tells (HasSdir (e ∷ es)) t
+    skip d (it-is x) = it-is (other x)
+    skip {e} {es} d (it-is-not k) = it-is-not no
+      where
+        no : HasSdir (e ∷ es) → ⊥
+        no (this x) = d x
+        no (other x) = k x
+
+    last : (has : Bool) → Tells (HasSdir (pick has (ext EOIE body ∷ []) [])) false
+    last false = it-is-not no-more
+    last true = skip (λ (e : EOIE ≡ sdir). let z : _≡_ {A = ℕ} 69 115 = ap (λ (l : List ℕ). getD l 0 0) e in omega arith) (it-is-not no-more)
+
+    middle : (sparse has : Bool) → Tells (HasSdir (pick sparse (ext sdir [] ∷ []) [] ++ pick has (ext EOIE body ∷ []) [])) sparse
+    middle false has = last has
+    middle true has = it-is (this refl)
+
+    go : (writes sparse has : Bool) → Tells (HasSdir (extensionsMeant writes tree sparse has body)) sparse
+    go false sparse has = middle sparse has
+    go true sparse has = skip (λ (e : TREE ≡ sdir). let z : _≡_ {A = ℕ} 84 115 = ap (λ (l : List ℕ). getD l 0 0) e in omega arith) (middle sparse has)
+
+-- ---- the tree
+
+-- behind TREE there is no other
+none-behind : (sparse has : Bool) (body : List ℕ) → NoneSigned TREE (pick sparse (ext sdir [] ∷ []) [] ++ pick has (ext EOIE body ∷ []) [])
+none-behind sparse has body = go sparse has
+  where
+    last : (has : Bool) → NoneSigned TREE (pick has (ext EOIE body ∷ []) [])
+    last false = none-left
+    last true = another (λ (e : EOIE ≡ TREE). let z : _≡_ {A = ℕ} 69 84 = ap (λ (l : List ℕ). getD l 0 0) e in omega arith) none-left
+
+    go : (sparse has : Bool) → NoneSigned TREE (pick sparse (ext sdir [] ∷ []) [] ++ pick has (ext EOIE body ∷ []) [])
+    go false has = last has
+    go true has = another (λ (e : sdir ≡ TREE). let z : _≡_ {A = ℕ} 115 84 = ap (λ (l : List ℕ). getD l 0 0) e in omega arith) (last has)
+
+pub last-tree : (at : ℕ) (tree : List ℕ) (sparse has : Bool) (body : List ℕ) → LastSigned TREE at (extensionsMeant true tree sparse has body) (at + 8) tree
+last-tree at tree sparse has body =
+    let l : LastSigned TREE at (extensionsMeant true tree sparse has body) (at + 0 + 8) tree
+    = last-signed [] {e = ext TREE tree} (pick sparse (ext sdir [] ∷ []) [] ++ pick has (ext EOIE body ∷ []) []) refl refl (none-behind sparse has body) in
+    let e : at + 0 + 8 ≡ at + 8 = omega arith in
+    subst (λ (j : ℕ). LastSigned TREE at (extensionsMeant true tree sparse has body) j tree) e l
+
+pub no-tree : (tree : List ℕ) (sparse has : Bool) (body : List ℕ) → NoneSigned TREE (extensionsMeant false tree sparse has body)
+no-tree tree sparse has body = none-behind sparse has body

@@ -1,0 +1,164 @@
+// Whether a node table is proper.
+ghost use mathlib.Core.Path.{_≡_};
+ghost use Prim.Native.Nat.{_-_};
+ghost use Rattle.node.specs.Store.{nodesIn};
+ghost use Rattle.tree_write.specs.Proper.{parentFits, countFits, holdsNone, nameFits, climbs, nodeFits, childCount, kidsFit, nodesFit, allKidsFit, isProper};
+use slices::Ends;
+
+// The deepest level of a proper table.
+const DEPTH_LIMIT: usize = 64;
+
+// One more than the largest count.
+const COUNT_HALF: u64 = 2147483648;
+
+// Whether node 0 has no parent, or another an earlier one.
+fn parent_fits(nodes: &[u8], i: usize) -> bool
+    ensures { λ r. ⌜ r ≡ parentFits (now (nodes .entry)) i ⌝ }
+{
+    let p = node::parent(nodes, i);
+    if i == 0 {
+        return p == node::MINUS_ONE;
+    }
+    p < i as u64
+}
+
+// Whether the count of node i is -1 to 2^31 - 1.
+fn count_fits(nodes: &[u8], i: usize) -> bool
+    ensures { λ r. ⌜ r ≡ countFits (now (nodes .entry)) i ⌝ }
+{
+    let count = node::count(nodes, i);
+    if count == node::MINUS_ONE {
+        return true;
+    }
+    count < COUNT_HALF
+}
+
+// Whether a name holds no NUL.
+fn holds_none(name: &[u8]) -> bool
+    ensures { λ r. ⌜ r ≡ holdsNone (now (name .entry)) ⌝ }
+{
+    let n = name.len();
+    let e = slices::first_nul(name, 0, n);
+    match e {
+        Ends::With(_) => false,
+        Ends::Never => true,
+    }
+}
+
+// Whether the name of node i lies in the lent bytes and holds no NUL.
+fn name_fits(nodes: &[u8], names: &[u8], i: usize) -> bool
+    ensures { λ r. ⌜ r ≡ nameFits (now (nodes .entry)) (now (names .entry)) i ⌝ }
+{
+    if node::name_inside(names, nodes, i) {
+        let name = node::name(names, nodes, i);
+        return holds_none(name);
+    }
+    false
+}
+
+// Whether the root is reached from node i by at most so many nodes, both counted.
+fn climbs(nodes: &[u8], levels: usize, i: usize) -> bool
+    ensures { λ r. ⌜ r ≡ climbs (now (nodes .entry)) levels i ⌝ }
+{
+    let mut node = i;
+    let mut left = levels;
+    while 0 < left {
+        if node == 0 {
+            return true;
+        }
+        let up = node::parent(nodes, node);
+        node = up as usize;
+        left -= 1;
+    }
+    false
+}
+
+fn node_fits(nodes: &[u8], names: &[u8], i: usize) -> bool
+    ensures { λ r. ⌜ r ≡ nodeFits 64 (now (nodes .entry)) (now (names .entry)) i ⌝ }
+{
+    if parent_fits(nodes, i) {
+        if count_fits(nodes, i) {
+            if name_fits(nodes, names, i) {
+                return climbs(nodes, DEPTH_LIMIT, i);
+            }
+            return false;
+        }
+        return false;
+    }
+    false
+}
+
+// How many children node p has.
+fn child_count(nodes: &[u8], p: usize) -> u64
+    ensures { λ r. ⌜ r ≡ childCount (now (nodes .entry)) p (nodesIn (now (nodes .entry)) - 1) 1 ⌝ }
+{
+    let n = nodes.len() / node::NODE_SIZE;
+    let mut count: u64 = 0;
+    let mut j: usize = 1;
+    while j < n {
+        let q = node::parent(nodes, j);
+        if q == p as u64 {
+            count += 1;
+            j += 1;
+        } else {
+            j += 1;
+        }
+    }
+    count
+}
+
+// Whether node i has as many children as it says, and their names differ.
+fn kids_fit(nodes: &[u8], names: &[u8], i: usize) -> bool
+    ensures { λ r. ⌜ r ≡ kidsFit (now (nodes .entry)) (now (names .entry)) i ⌝ }
+{
+    let n = nodes.len() / node::NODE_SIZE;
+    let said = node::subtrees(nodes, i);
+    let count = child_count(nodes, i);
+    if said == count {
+        return siblings::siblings_differ(names, nodes, i as u64, 1, n);
+    }
+    false
+}
+
+fn nodes_fit(nodes: &[u8], names: &[u8]) -> bool
+    ensures { λ r. ⌜ r ≡ nodesFit 64 (now (nodes .entry)) (now (names .entry)) ⌝ }
+{
+    let n = nodes.len() / node::NODE_SIZE;
+    let mut i: usize = 0;
+    while i < n {
+        if node_fits(nodes, names, i) {
+            i += 1;
+        } else {
+            return false;
+        }
+    }
+    true
+}
+
+// Whether every node has as many children as it says, and their names differ: each node's children are looked for in the whole table.
+fn all_kids_fit(nodes: &[u8], names: &[u8]) -> bool
+    ensures { λ r. ⌜ r ≡ allKidsFit (now (nodes .entry)) (now (names .entry)) ⌝ }
+{
+    let n = nodes.len() / node::NODE_SIZE;
+    let mut i: usize = 0;
+    while i < n {
+        if kids_fit(nodes, names, i) {
+            i += 1;
+        } else {
+            return false;
+        }
+    }
+    true
+}
+
+pub fn is_proper(nodes: &[u8], names: &[u8]) -> bool
+    ensures { λ r. ⌜ r ≡ isProper 64 (now (nodes .entry)) (now (names .entry)) ⌝ }
+{
+    if nodes.len() < node::NODE_SIZE {
+        return false;
+    }
+    if nodes_fit(nodes, names) {
+        return all_kids_fit(nodes, names);
+    }
+    false
+}

@@ -1,0 +1,284 @@
+-- Laws of the whole file, turned the way that the needs ask. Assumes nothing.
+use Prim.Native.Nat.{ℕ, _+_, _≤_, _<_}
+use mathlib.Core.Bool.{Bool, true, false}
+use mathlib.Core.Path.{_≡_, refl, sym, ap, _∙_}
+use mathlib.Core.List.{List, [], _∷_, _++_, append-assoc}
+use native.Mathlib.Omega.{arith}
+use lib.ListN.{length, take, drop, length-append}
+use lib.Seq.{paste, take-at, length-take-le}
+use borrow.Author.Tests.{lt-ltb, le-ltb, le-leb}
+use Rattle.laws.specs.Pick.{pick}
+use Rattle.laws.specs.Put.{put, put-none, put-front, put-put, length-put, paste-put}
+use Rattle.wire.specs.BigEndian.{bytesOf, length-bytes}
+use Rattle.sums.specs.Cap.{cap, cap-fits, cap-cap, cap-cap-right}
+use Rattle.sha1.specs.Sha1.{sha1}
+use Rattle.tree_write.specs.Tree.{treeBytes, putFit}
+use Rattle.tree_write.specs.Proper.{isProper}
+use Rattle.write.specs.declared.Options.{Options}
+use Rattle.write.specs.Entries.{tableBytes}
+use Rattle.write.proofs.Laws.{eoie-none}
+use Rattle.write.specs.Parts.{length-header, length-tree-head, length-sparse, length-eoie}
+use Rattle.write.specs.File.{headerOf, headSize, endSize, treeHead, sparsePart, contents, eoiePart, trailerOf, endOf, frontOf, extensionsOf, bodyOf, closedOf, fileOf, writesTree, hasEoie, treeOf, treeFits}
+
+-- ---- what is asked for
+
+module _ (o : Options) where
+  pub tree-given : o .tree ≡ true → o .cache ≡ writesTree o
+  unfolding writesTree
+  tree-given h = sym (rw h)
+
+  pub tree-missing : o .tree ≡ false → false ≡ writesTree o
+  unfolding writesTree
+  tree-missing h = sym (rw h)
+
+module _ (o : Options) (records : ℕ) where
+  pub eoie-unasked : o .eoie ≡ false → false ≡ hasEoie records o
+  unfolding hasEoie
+  eoie-unasked h = sym (rw h)
+
+  module _ (h : o .eoie ≡ true) where
+    pub eoie-empty : records ≤ 0 → false ≡ hasEoie records o
+    unfolding hasEoie
+    eoie-empty k = sym (rw (h, le-ltb 0 records k))
+
+    module _ (k : 0 < records) (writes : Bool) (e : writes ≡ writesTree o) where
+      opened : hasEoie records o ≡ pick writes true (o .sparse)
+      unfolding hasEoie writesTree
+      opened = rw (h, lt-ltb 0 records k) (ap (λ (w : Bool). pick w true (o .sparse)) (sym e))
+
+      pub eoie-tree : writes ≡ true → true ≡ hasEoie records o
+      eoie-tree l = sym (opened ∙ ap (λ (w : Bool). pick w true (o .sparse)) l)
+
+      pub eoie-sparse : writes ≡ false → o .sparse ≡ hasEoie records o
+      eoie-sparse l = sym (opened ∙ ap (λ (w : Bool). pick w true (o .sparse)) l)
+
+-- ---- the tree
+
+module _ (ns nm : List ℕ) (writes : Bool) where
+  pub fits-written : writes ≡ true → (t : Bool) → t ≡ isProper 64 ns nm → t ≡ treeFits 64 ns nm writes
+  unfolding treeFits
+  fits-written h t e = e ∙ sym (rw h)
+
+  pub fits-unwritten : writes ≡ false → true ≡ treeFits 64 ns nm writes
+  unfolding treeFits
+  fits-unwritten h = sym (rw h)
+
+  written : writes ≡ true → treeOf 20 64 ns nm writes ≡ treeBytes 20 64 ns nm
+  unfolding treeOf
+  written h = rw h
+
+  unwritten : writes ≡ false → treeOf 20 64 ns nm writes ≡ []
+  unfolding treeOf
+  unwritten h = rw h
+
+  pub length-written : writes ≡ true → (n : ℕ) → n ≡ cap (length (treeBytes 20 64 ns nm)) → n ≡ cap (length (treeOf 20 64 ns nm writes))
+  length-written h n e = e ∙ ap (λ (t : List ℕ). cap (length t)) (sym (written h))
+
+  pub length-unwritten : writes ≡ false → 0 ≡ cap (length (treeOf 20 64 ns nm writes))
+  length-unwritten h = sym (ap (λ (t : List ℕ). cap (length t)) (unwritten h) ∙ cap-fits 0 (omega arith))
+
+  pub put-written : writes ≡ true → (d d₁ : List ℕ) (k : ℕ) → k + length (treeOf 20 64 ns nm writes) ≤ length d → d₁ ≡ putFit d k (treeBytes 20 64 ns nm) → d₁ ≡ put d k (treeOf 20 64 ns nm writes)
+  unfolding putFit
+  put-written h d d₁ k room e =
+      let l : k + length (treeBytes 20 64 ns nm) ≤ length d = omega (arith, ap length (written h)) in
+      e ∙ (rw (le-leb (k + length (treeBytes 20 64 ns nm)) (length d) l)) ∙ ap (λ (t : List ℕ). put d k t) (sym (written h))
+
+  pub put-unwritten : writes ≡ false → (d : List ℕ) (k : ℕ) → d ≡ put d k (treeOf 20 64 ns nm writes)
+  put-unwritten h d k = sym (ap (λ (t : List ℕ). put d k t) (unwritten h) ∙ put-none d k)
+
+pub tree-end : (t : List ℕ) (n k : ℕ) → n ≡ length t → k + n ≡ k + length t
+tree-end t n k e = omega arith
+
+-- ---- bytes put side by side
+
+then-put : (d d₁ d₂ a b : List ℕ) (k k₁ : ℕ) → d₁ ≡ put d k a → k₁ ≡ k + length a → d₂ ≡ put d₁ k₁ b → k ≤ length d → d₂ ≡ put d k (a ++ b)
+then-put d d₁ d₂ a b k k₁ e₁ p₁ e₂ room = e₂ ∙ (λ j. put (e₁ j) (p₁ j) b) ∙ put-put d a b k room
+
+pub header-put : (d d₁ d₂ d₃ : List ℕ) (version count : ℕ) → 12 ≤ length d → d₁ ≡ paste d 0 (68 ∷ 73 ∷ 82 ∷ 67 ∷ []) 4 → d₂ ≡ paste d₁ 4 (bytesOf 4 version) 4 → d₃ ≡ paste d₂ 8 (bytesOf 4 count) 4 → d₃ ≡ put d 0 (headerOf version count)
+unfolding headerOf
+header-put d d₁ d₂ d₃ version count room e₁ e₂ e₃ =
+    let s : List ℕ = 68 ∷ 73 ∷ 82 ∷ 67 ∷ [] in
+    let v : List ℕ = bytesOf 4 version in
+    let c : List ℕ = bytesOf 4 count in
+    let q₁ : d₁ ≡ put d 0 s = e₁ ∙ paste-put d s 0 4 refl in
+    let q₂ : d₂ ≡ put d 0 (s ++ v) = then-put d d₁ d₂ s v 0 4 q₁ refl (e₂ ∙ paste-put d₁ v 4 4 (sym (length-bytes 4 version))) (omega arith) in
+    let p₂ : 8 ≡ 0 + length (s ++ v) = omega (arith, length-append s v, length-bytes 4 version) in
+    then-put d d₂ d₃ (s ++ v) c 0 8 q₂ p₂ (e₃ ∙ paste-put d₂ c 8 4 (sym (length-bytes 4 count))) (omega arith)
+
+-- ---- header and entries
+
+module _ (rs ps : List ℕ) (version count : ℕ) where
+  abbrev h : List ℕ
+  h = headerOf version count
+
+  abbrev es : List ℕ
+  es = tableBytes 20 rs ps
+
+  pub length-front-of : length (frontOf 20 rs ps version count) ≡ 12 + length (tableBytes 20 rs ps)
+  unfolding frontOf
+  length-front-of = omega (arith, length-header version count, length-append h es)
+
+  module _ (d : List ℕ) (room : length (frontOf 20 rs ps version count) ≤ length d) where
+    pub front-header : 12 ≤ length d
+    front-header = omega (arith, length-front-of)
+
+    module _ (d₁ : List ℕ) (e₁ : d₁ ≡ put d 0 (headerOf version count)) where
+      pub front-entries : 12 + length (tableBytes 20 rs ps) ≤ length d₁
+      front-entries = omega (arith, length-front-of, ap length e₁, length-put d h 0 (omega (arith, length-front-of, length-header version count)))
+
+      pub front-put : (d₂ : List ℕ) → d₂ ≡ put d₁ 12 (tableBytes 20 rs ps) → d₂ ≡ put d 0 (frontOf 20 rs ps version count)
+      unfolding frontOf
+      front-put d₂ e₂ = then-put d d₁ d₂ h es 0 12 e₁ (omega (arith, length-header version count)) e₂ (omega arith)
+
+-- ---- TREE and `sdir`
+
+module _ (writes : Bool) (t : List ℕ) (sparse : Bool) where
+  abbrev th : List ℕ
+  th = treeHead writes (length t)
+
+  pub length-extensions : length (extensionsOf writes t sparse) ≡ length (treeHead writes (length t)) + length t + length (sparsePart sparse)
+  unfolding extensionsOf
+  length-extensions = omega (arith, length-append (th ++ t) (sparsePart sparse), length-append th t)
+
+  module _ (n : ℕ) (en : n ≡ length t) (d : List ℕ) (k : ℕ) (room : k + length (extensionsOf writes t sparse) ≤ length d) where
+    headed : length (treeHead writes n) ≡ length (treeHead writes (length t))
+    headed = ap (λ (x : ℕ). length (treeHead writes x)) en
+
+    pub extensions-head : k + length (treeHead writes n) ≤ length d
+    extensions-head = omega (arith, length-extensions, headed)
+
+    module _ (k₁ : ℕ) (p₁ : k₁ ≡ k + length (treeHead writes n)) (d₁ : List ℕ) (e₁ : d₁ ≡ put d k (treeHead writes n)) where
+      long₁ : length d₁ ≡ length d
+      long₁ = ap length e₁ ∙ length-put d (treeHead writes n) k extensions-head
+
+      pub extensions-tree : k₁ + length t ≤ length d₁
+      extensions-tree = omega (arith, length-extensions, headed, long₁)
+
+      module _ (k₂ : ℕ) (p₂ : k₂ ≡ k₁ + length t) (d₂ : List ℕ) (e₂ : d₂ ≡ put d₁ k₁ t) where
+        pub extensions-sparse : k₂ + length (sparsePart sparse) ≤ length d₂
+        extensions-sparse = omega (arith, length-extensions, headed, long₁, ap length e₂, length-put d₁ t k₁ extensions-tree)
+
+        pub extensions-next : (k₃ : ℕ) → k₃ ≡ k₂ + length (sparsePart sparse) → k₃ ≡ k + length (extensionsOf writes t sparse)
+        extensions-next k₃ p₃ = omega (arith, length-extensions, headed)
+
+        pub extensions-put : (d₃ : List ℕ) → d₃ ≡ put d₂ k₂ (sparsePart sparse) → d₃ ≡ put d k (extensionsOf writes t sparse)
+        unfolding extensionsOf
+        extensions-put d₃ e₃ =
+            let z : treeHead writes n ≡ th = ap (λ (x : ℕ). treeHead writes x) en in
+            let q₁ : d₁ ≡ put d k th = e₁ ∙ ap (λ (x : List ℕ). put d k x) z in
+            let q₂ : d₂ ≡ put d k (th ++ t) = then-put d d₁ d₂ th t k k₁ q₁ (p₁ ∙ ap (λ (x : List ℕ). k + length x) z) e₂ (omega arith) in
+            let n₂ : k₂ ≡ k + length (th ++ t) = omega (arith, length-append th t, headed) in
+            then-put d d₂ d₃ (th ++ t) (sparsePart sparse) k k₂ q₂ n₂ e₃ (omega arith)
+
+-- ---- EOIE and the trailer
+
+module _ (skips : Bool) (d e : List ℕ) (k : ℕ) (room : k + (length e + 20) ≤ length d) where
+  pub end-eoie : k + length e ≤ length d
+  end-eoie = omega arith
+
+  module _ (d₁ : List ℕ) (k₁ : ℕ) (p₁ : k₁ ≡ k + length e) (e₁ : d₁ ≡ put d k e) where
+    pub end-trailer : k₁ + 20 ≤ length d₁
+    end-trailer = omega (arith, ap length e₁, length-put d e k end-eoie)
+
+    before : take k₁ d₁ ≡ take k d ++ e
+    unfolding put
+    before = (λ j. take (p₁ j) (e₁ j)) ∙ take-at (take k d ++ e) (drop (k + length e) d) (k + length e) (omega (arith, length-append (take k d) e, length-take-le k d (omega arith)))
+
+    pub end-put : (d₂ : List ℕ) → d₂ ≡ put d₁ k₁ (trailerOf 20 sha1 skips (take k₁ d₁)) → d₂ ≡ put d k (endOf 20 sha1 skips (take k d) e)
+    unfolding endOf
+    end-put d₂ e₂ = then-put d d₁ d₂ e (trailerOf 20 sha1 skips (take k d ++ e)) k k₁ e₁ p₁ (e₂ ∙ ap (λ (x : List ℕ). put d₁ k₁ (trailerOf 20 sha1 skips x)) before) (omega arith)
+
+-- ---- sizes
+
+module _ (there : Bool) where
+  pub head-there : there ≡ true → 8 ≡ headSize there
+  unfolding headSize
+  head-there h = sym (rw h)
+
+  pub head-absent : there ≡ false → 0 ≡ headSize there
+  unfolding headSize
+  head-absent h = sym (rw h)
+
+  pub end-there : there ≡ true → 52 ≡ endSize 20 there
+  unfolding endSize
+  end-there h = sym (rw h)
+
+  pub end-absent : there ≡ false → 20 ≡ endSize 20 there
+  unfolding endSize
+  end-absent h = sym (rw h)
+
+pub sizes-sum : (front tree h l a b r : ℕ) (writes sparse : Bool) → h ≡ headSize writes → l ≡ headSize sparse → a ≡ cap (front + h) → b ≡ cap (a + tree) → r ≡ cap (b + l) → r ≡ cap (cap (cap (front + headSize writes) + tree) + headSize sparse)
+sizes-sum front tree h l a b r writes sparse eh el ea eb er =
+    er ∙ (λ j. cap (eb j + el j)) ∙ (λ j. cap (cap (ea j + tree) + headSize sparse)) ∙ ap (λ (x : ℕ). cap (cap (cap (front + x) + tree) + headSize sparse)) eh
+
+pub length-eoie-part : (has : Bool) (offset : ℕ) (toc : List ℕ) → length (eoiePart 20 sha1 has offset toc) + 20 ≡ endSize 20 has
+unfolding endSize
+length-eoie-part true offset toc = omega (arith, length-eoie true offset toc refl)
+length-eoie-part false offset toc = omega (arith, eoie-none false offset toc refl 0)
+
+module _ (rs ps : List ℕ) (version count : ℕ) (writes : Bool) (t : List ℕ) (sparse : Bool) where
+  abbrev front : List ℕ
+  front = frontOf 20 rs ps version count
+
+  abbrev extensions : List ℕ
+  extensions = extensionsOf writes t sparse
+
+  abbrev body : List ℕ
+  body = bodyOf 20 rs ps version count writes t sparse
+
+  -- THE BODY'S LENGTH
+  pub length-body : length (bodyOf 20 rs ps version count writes t sparse) ≡ 12 + length (tableBytes 20 rs ps) + headSize writes + length t + headSize sparse
+  unfolding bodyOf
+  length-body = omega (arith, length-append front extensions, length-front-of rs ps version count, length-extensions writes t sparse, length-tree-head writes (length t), length-sparse sparse)
+
+  pub body-size : (size tree r : ℕ) → size ≡ cap (12 + length (tableBytes 20 rs ps)) → tree ≡ cap (length t) → r ≡ cap (cap (cap (size + headSize writes) + tree) + headSize sparse) → r ≡ cap (length (bodyOf 20 rs ps version count writes t sparse))
+  body-size size tree r es et er =
+      let a : ℕ = 12 + length (tableBytes 20 rs ps) in
+      let q₁ : cap (size + headSize writes) ≡ cap (a + headSize writes) = ap (λ (x : ℕ). cap (x + headSize writes)) es ∙ cap-cap a (headSize writes) in
+      let q₂ : cap (cap (size + headSize writes) + tree) ≡ cap (a + headSize writes + length t)
+      = (λ j. cap (q₁ j + et j)) ∙ cap-cap (a + headSize writes) (cap (length t)) ∙ cap-cap-right (a + headSize writes) (length t) in
+      er ∙ ap (λ (x : ℕ). cap (x + headSize sparse)) q₂ ∙ cap-cap (a + headSize writes + length t) (headSize sparse) ∙ ap cap (sym length-body)
+
+  -- the filling, from what its three steps ensure
+  module _ (has : Bool) (n : ℕ) (en : n ≡ length t) (skips : Bool) (d : List ℕ) (room : length (bodyOf 20 rs ps version count writes t sparse) + endSize 20 has ≤ length d) where
+    pub fill-front : length (frontOf 20 rs ps version count) ≤ length d
+    fill-front = omega (arith, length-body, length-front-of rs ps version count)
+
+    module _ (d₁ : List ℕ) (k₁ : ℕ) (p₁ : k₁ ≡ 12 + length (tableBytes 20 rs ps)) (e₁ : d₁ ≡ put d 0 (frontOf 20 rs ps version count)) where
+      filled₁ : length d₁ ≡ length d
+      filled₁ = ap length e₁ ∙ length-put d front 0 (omega (arith, fill-front))
+
+      pub fill-extensions : k₁ + length (extensionsOf writes t sparse) ≤ length d₁
+      fill-extensions = omega (arith, filled₁, length-body, length-extensions writes t sparse, length-tree-head writes (length t), length-sparse sparse)
+
+      module _ (d₂ : List ℕ) (k₂ : ℕ) (p₂ : k₂ ≡ k₁ + length (extensionsOf writes t sparse)) (e₂ : d₂ ≡ put d₁ k₁ (extensionsOf writes t sparse)) where
+        filled₂ : length d₂ ≡ length d
+        filled₂ = ap length e₂ ∙ length-put d₁ extensions k₁ fill-extensions ∙ filled₁
+
+        place : k₂ ≡ length (bodyOf 20 rs ps version count writes t sparse)
+        place = omega (arith, length-body, length-extensions writes t sparse, length-tree-head writes (length t), length-sparse sparse)
+
+        pub fill-end-room : k₂ + (length (eoiePart 20 sha1 has k₁ (contents writes n sparse)) + 20) ≤ length d₂
+        fill-end-room = omega (arith, filled₂, place, length-eoie-part has k₁ (contents writes n sparse))
+
+        laid : d₂ ≡ put d 0 body
+        unfolding bodyOf
+        laid = then-put d d₁ d₂ front extensions 0 k₁ e₁ (omega (arith, length-front-of rs ps version count)) e₂ (omega arith)
+
+        before-end : take k₂ d₂ ≡ body
+        before-end = (λ j. take (place j) ((laid ∙ put-front d body) j)) ∙ take-at body (drop (length body) d) (length body) refl
+
+        pub fill-put : (d₃ : List ℕ) → d₃ ≡ put d₂ k₂ (endOf 20 sha1 skips (take k₂ d₂) (eoiePart 20 sha1 has k₁ (contents writes n sparse)))
+            → d₃ ≡ put d 0 (fileOf 20 sha1 (closedOf 20 sha1 (bodyOf 20 rs ps version count writes t sparse) has (12 + length (tableBytes 20 rs ps)) (contents writes n sparse)) skips)
+        unfolding fileOf closedOf endOf
+        fill-put d₃ e₃ =
+            let e : List ℕ = eoiePart 20 sha1 has k₁ (contents writes n sparse) in
+            let q : d₃ ≡ put d 0 (body ++ (e ++ trailerOf 20 sha1 skips (body ++ e)))
+            = then-put d d₂ d₃ body (e ++ trailerOf 20 sha1 skips (body ++ e)) 0 k₂ laid (omega (arith, place)) (e₃ ∙ ap (λ (x : List ℕ). put d₂ k₂ (e ++ trailerOf 20 sha1 skips (x ++ e))) before-end) (omega arith) in
+            q
+            ∙ ap (λ (x : List ℕ). put d 0 x) (sym (append-assoc body e (trailerOf 20 sha1 skips (body ++ e))))
+            ∙ ap (λ (x : ℕ). put d 0 ((body ++ eoiePart 20 sha1 has x (contents writes n sparse)) ++ trailerOf 20 sha1 skips (body ++ eoiePart 20 sha1 has x (contents writes n sparse)))) p₁
+
+pub ruleset whole = (tree-given, tree-missing, eoie-unasked, eoie-empty, eoie-tree, eoie-sparse, fits-written, fits-unwritten, length-written, length-unwritten, put-written, put-unwritten, header-put, tree-end, front-header, front-entries, front-put, extensions-head, extensions-tree, extensions-sparse, extensions-next, extensions-put, end-eoie, end-trailer, end-put, head-there, head-absent, end-there, end-absent, sizes-sum)
+
+pub ruleset fills = (fill-front, fill-extensions, fill-end-room, fill-put)

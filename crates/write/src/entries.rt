@@ -1,0 +1,195 @@
+// The entries: sized in one pass over the table, and written in another.
+ghost use mathlib.Core.Path.{_≡_};
+ghost use Prim.Native.Nat.{_+_, _*_, _-_, _/_, _≤_, _<_};
+ghost use mathlib.Core.List.{_++_};
+ghost use lib.ListN.{length, take};
+ghost use Rattle.laws.specs.Put.{put};
+ghost use Rattle.wire.specs.BigEndian.{bytesOf};
+ghost use Rattle.entry.specs.Flags.{toStorage, extendedToStorage};
+ghost use Rattle.entry.specs.Record.{recordsIn, flagsAt, pathAt};
+ghost use Rattle.write.specs.Entries.{faultOf, stated, fixedOf, frontAt, wholeOf, entryOf, recordBytes, beforeAt, tableBytes, keptOf, versionWith, sizeTable};
+
+// What a path of so many bytes or more states as its length.
+const LONG_PATH: usize = 4095;
+
+// The bytes before an entry's path, and with the 16 bits behind EXTENDED.
+const FIXED: usize = 62;
+
+const FIXED_EXTENDED: usize = 64;
+
+// The fields and the id, which stand in a record as in an entry.
+const FRONT: usize = 60;
+
+const HEADER: usize = 12;
+
+// What sizing comes to: the version, how many records are written, and into how many bytes with the header; or the first record whose path is not in the store.
+pub enum Sized {
+    Of {
+        version: u32,
+        count: usize,
+        size: usize,
+    },
+    Outside {
+        index: usize,
+    },
+}
+
+// The length that an entry states of a path of len bytes.
+fn stated_length(len: usize) -> u16
+    ensures { λ r. ⌜ r ≡ stated len ⌝ }
+{
+    if len < LONG_PATH {
+        len as u16
+    } else {
+        LONG_PATH as u16
+    }
+}
+
+fn fixed_size(flags: u32) -> usize
+    ensures { λ r. ⌜ r ≡ fixedOf 20 flags ⌝ }
+{
+    if entry::flags::is_extended(flags) {
+        return FIXED_EXTENDED;
+    }
+    FIXED
+}
+
+// Whether record i is to be written and its path does not lie in the store.
+fn record_fault(records: &[u8], paths: &[u8], i: usize) -> bool
+    ensures { λ r. ⌜ r ≡ faultOf (now (records .entry)) (now (paths .entry)) (beforeAt (now (records .entry)) (now (paths .entry)) i) i ⌝ }
+{
+    let flags = entry::flags_at(records, i);
+    if entry::flags::is_removed(flags) {
+        return false;
+    }
+    if entry::lies_inside(records, paths, i) {
+        return false;
+    }
+    true
+}
+
+// How many bytes are written of record i.
+fn record_size(records: &[u8], paths: &[u8], i: usize) -> usize
+    requires { ⌜ i < recordsIn (now records) ⌝ }
+    ensures { λ r. ⌜ r ≡ length (recordBytes 20 (now (records .entry)) (now (paths .entry)) (beforeAt (now (records .entry)) (now (paths .entry)) i) i) ⌝ }
+{
+    let flags = entry::flags_at(records, i);
+    if entry::flags::is_removed(flags) {
+        return 0;
+    }
+    let path = entry::path_of(records, paths, i);
+    let fixed = fixed_size(flags);
+    let len = path.len();
+    (fixed + len + 8) / 8 * 8
+}
+
+// 1 for a record that is written.
+fn kept_of(records: &[u8], i: usize) -> usize
+    ensures { λ r. ⌜ r ≡ keptOf (now (records .entry)) i ⌝ }
+{
+    let flags = entry::flags_at(records, i);
+    if entry::flags::is_removed(flags) {
+        return 0;
+    }
+    1
+}
+
+// Version 3 if a record has EXTENDED, even one that is not written.
+fn version_with(flags: u32, version: u32) -> u32
+    ensures { λ r. ⌜ r ≡ versionWith flags version ⌝ }
+{
+    if entry::flags::is_extended(flags) {
+        return 3;
+    }
+    version
+}
+
+// Sizes the whole table, or finds the first record with a fault.
+pub fn size_entries(records: &[u8], paths: &[u8]) -> Sized
+    ensures { λ r. ⌜ r ≡ sizeTable 20 (now (records .entry)) (now (paths .entry)) ⌝ }
+{
+    let n = entry::records_in(records);
+    let mut version: u32 = 2;
+    let mut count: usize = 0;
+    let mut size = HEADER;
+    let mut i: usize = 0;
+    while i < n {
+        if record_fault(records, paths, i) {
+            return Sized::Outside { index: i };
+        }
+        let flags = entry::flags_at(records, i);
+        version = version_with(flags, version);
+        count += kept_of(records, i);
+        let one = record_size(records, paths, i);
+        size = sums::plus(size, one);
+        i += 1;
+    }
+    Sized::Of {
+        version,
+        count,
+        size,
+    }
+}
+
+// The bytes of record i before its path, of len bytes, with the 16 bits behind EXTENDED in any case. They are made in an array: the compiler knows that this
+// overlaps neither slice.
+fn head_of(records: &[u8], i: usize, flags: u32, len: usize) -> [u8; 64]
+    requires { ⌜ i < recordsIn (now records) ⌝ }
+    ensures { λ r. ⌜ r ≡ (frontAt 20 (now (records .entry)) i ++ bytesOf 2 (toStorage flags + stated len)) ++ bytesOf 2 (extendedToStorage flags) ⌝ }
+{
+    let word = entry::flags::to_storage(flags) + stated_length(len);
+    let more = entry::flags::extended_to_storage(flags);
+    let base = i * entry::RECORD_SIZE;
+    let mut head = [0u8; 64];
+    slices::copy_bytes(records, base, FRONT, &mut head, 0);
+    wire::put16(&mut head, FRONT, word);
+    wire::put16(&mut head, FIXED, more);
+    head
+}
+
+// Writes the entry of record i at `at`, and answers where it ends: what stands before the path, the path, and 1 to 8 NULs.
+fn put_entry(records: &[u8], path: &[u8], i: usize, flags: u32, out: &mut [u8], at: usize) -> usize
+    requires { ⌜ (i < recordsIn (now records)) × (flags ≡ flagsAt (now records) i) ⌝ }
+    requires { ⌜ at + wholeOf (fixedOf 20 flags) (length (now path)) ≤ length (now out) ⌝ }
+    ensures { λ r. ⌜ (r ≡ at + wholeOf (fixedOf 20 flags) (length (now (path .entry)))) × (now (out .exit) ≡ put (now (out .entry)) at (entryOf 20 (now (records .entry)) i (now (path .entry)))) ⌝ }
+{
+    let len = path.len();
+    let fixed = fixed_size(flags);
+    let head = head_of(records, i, flags, len);
+    let body = at + fixed;
+    let past = body + len;
+    let pad = 8 - (fixed + len) % 8;
+    slices::copy_bytes(&head, 0, fixed, out, at);
+    slices::copy_bytes(path, 0, len, out, body);
+    slices::clear(out, past, pad);
+    past + pad
+}
+
+// Writes what is written of record i at `at`, and answers where that ends.
+fn put_record(records: &[u8], paths: &[u8], i: usize, out: &mut [u8], at: usize) -> usize
+    requires { ⌜ i < recordsIn (now records) ⌝ }
+    requires { ⌜ at + length (recordBytes 20 (now records) (now paths) (beforeAt (now records) (now paths) i) i) ≤ length (now out) ⌝ }
+    ensures { λ r. ⌜ (r ≡ at + length (recordBytes 20 (now (records .entry)) (now (paths .entry)) (beforeAt (now (records .entry)) (now (paths .entry)) i) i)) × (now (out .exit) ≡ put (now (out .entry)) at (recordBytes 20 (now (records .entry)) (now (paths .entry)) (beforeAt (now (records .entry)) (now (paths .entry)) i) i)) ⌝ }
+{
+    let flags = entry::flags_at(records, i);
+    if entry::flags::is_removed(flags) {
+        return at;
+    }
+    let path = entry::path_of(records, paths, i);
+    put_entry(records, path, i, flags, out, at)
+}
+
+// Writes every entry from `from` on, and answers where the last ends.
+pub fn put_entries(records: &[u8], paths: &[u8], out: &mut [u8], from: usize) -> usize
+    requires { ⌜ from + length (tableBytes 20 (now records) (now paths)) ≤ length (now out) ⌝ }
+    ensures { λ r. ⌜ (r ≡ from + length (tableBytes 20 (now (records .entry)) (now (paths .entry)))) × (now (out .exit) ≡ put (now (out .entry)) from (tableBytes 20 (now (records .entry)) (now (paths .entry)))) ⌝ }
+{
+    let n = entry::records_in(records);
+    let mut at = from;
+    let mut i: usize = 0;
+    while i < n {
+        at = put_record(records, paths, i, out, at);
+        i += 1;
+    }
+    at
+}

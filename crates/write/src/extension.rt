@@ -1,0 +1,96 @@
+// What follows the entries: the extensions and the trailer.
+ghost use mathlib.Core.Path.{_≡_};
+ghost use Prim.Native.Nat.{_+_, _≤_, _<_, _^_};
+ghost use lib.ListN.{length, take};
+ghost use Rattle.laws.specs.Put.{put};
+ghost use Rattle.sha1.specs.Sha1.{sha1};
+ghost use Rattle.write.specs.File.{extensionHead, treeHead, sparsePart, contents, eoiePart, trailerOf};
+
+// The bytes of a hash of SHA-1.
+const ID: usize = 20;
+
+// An extension's signature and size.
+const HEAD: usize = 8;
+
+// What EOIE holds: an offset and a hash.
+const EOIE_SIZE: u32 = 24;
+
+// Writes a signature and a size at `at`, and answers where they end.
+pub fn put_head(signature: [u8; 4], size: u32, out: &mut [u8], at: usize) -> usize
+    requires { ⌜ at + 8 ≤ length (now out) ⌝ }
+    requires { ⌜ length signature ≡ 4 ⌝ }
+    ensures { λ r. ⌜ (r ≡ at + 8) × (now (out .exit) ≡ put (now (out .entry)) at (extensionHead signature size)) ⌝ }
+{
+    slices::copy_bytes(&signature, 0, 4, out, at);
+    wire::put32(out, at + 4, size);
+    at + HEAD
+}
+
+// Writes `sdir` if the index is sparse.
+pub fn put_sparse(sparse: bool, out: &mut [u8], at: usize) -> usize
+    requires { ⌜ at + length (sparsePart sparse) ≤ length (now out) ⌝ }
+    ensures { λ r. ⌜ (r ≡ at + length (sparsePart sparse)) × (now (out .exit) ≡ put (now (out .entry)) at (sparsePart sparse)) ⌝ }
+{
+    if sparse {
+        return put_head(*b"sdir", 0, out, at);
+    }
+    at
+}
+
+// Writes TREE's signature and size, if TREE is written.
+pub fn put_tree_head(writes: bool, size: u32, out: &mut [u8], at: usize) -> usize
+    requires { ⌜ at + length (treeHead writes size) ≤ length (now out) ⌝ }
+    ensures { λ r. ⌜ (r ≡ at + length (treeHead writes size)) × (now (out .exit) ≡ put (now (out .entry)) at (treeHead writes size)) ⌝ }
+{
+    if writes {
+        return put_head(*b"TREE", size, out, at);
+    }
+    at
+}
+
+// The hash of the signatures and sizes of the extensions before EOIE.
+fn contents_hash(writes: bool, size: u32, sparse: bool) -> [u8; 20]
+    ensures { λ r. ⌜ r ≡ sha1 (contents writes size sparse) ⌝ }
+{
+    let mut toc = [0u8; 16];
+    let middle = put_tree_head(writes, size, &mut toc, 0);
+    let end = put_sparse(sparse, &mut toc, middle);
+    sha1::sha1_of(&toc[..end])
+}
+
+// Writes EOIE, if it is written: where the extensions start, and the hash of their signatures and sizes.
+pub fn put_eoie(
+    has: bool,
+    offset: u32,
+    writes: bool,
+    size: u32,
+    sparse: bool,
+    out: &mut [u8],
+    at: usize,
+) -> usize
+    requires { ⌜ at + length (eoiePart 20 sha1 has offset (contents writes size sparse)) ≤ length (now out) ⌝ }
+    ensures { λ r. ⌜ (r ≡ at + length (eoiePart 20 sha1 has offset (contents writes size sparse))) × (now (out .exit) ≡ put (now (out .entry)) at (eoiePart 20 sha1 has offset (contents writes size sparse))) ⌝ }
+{
+    if has {
+        let hash = contents_hash(writes, size, sparse);
+        let body = put_head(*b"EOIE", EOIE_SIZE, out, at);
+        let last = body + 4;
+        wire::put32(out, body, offset);
+        slices::copy_bytes(&hash, 0, ID, out, last);
+        return last + ID;
+    }
+    at
+}
+
+// Writes the trailer behind the bytes before `at`: their hash, or zeros.
+pub fn put_trailer(skips: bool, out: &mut [u8], at: usize)
+    requires { ⌜ at + 20 ≤ length (now out) ⌝ }
+    ensures { λ _. ⌜ now (out .exit) ≡ put (now (out .entry)) at (trailerOf 20 sha1 skips (take at (now (out .entry)))) ⌝ }
+{
+    if skips {
+        slices::clear(out, at, ID);
+        return;
+    }
+    let hash = sha1::sha1_of(&out[..at]);
+    slices::copy_bytes(&hash, 0, ID, out, at);
+}

@@ -1,0 +1,185 @@
+// Pages of the writer: 01's TREE of 32 bytes, read and written back, and the differences D10 to D13 from the Rust.
+ghost use mathlib.Core.Path.{_≡_};
+ghost use lib.ListN.{length};
+use libc::STDOUT_FILENO;
+use node::Node;
+use write::Answer;
+use write::Options;
+
+// Names of the nodes, and their ids: "a" at 0, "b" at 1, a name with NUL from 19 to 22.
+const NAMES: [u8; 22] = *b"abcdefghijklmnopqrst\0x";
+
+fn wide(x: u8) -> u64 {
+    x as u64
+}
+
+fn show_hex(s: &[u8]) {
+    let mut i: usize = 0;
+    while i < s.len() {
+        io::print_hex(STDOUT_FILENO, wide(s[i]), 2);
+        i += 1;
+    }
+}
+
+// A line of bytes in hexadecimal digits.
+fn show_line(s: &[u8]) {
+    show_hex(s);
+    io::write_all(STDOUT_FILENO, b"\n");
+}
+
+fn show_number(x: u64) {
+    io::write_all(STDOUT_FILENO, b" ");
+    io::print_decimal(STDOUT_FILENO, x);
+}
+
+// Version and size, or the number of a refusal and what it carries.
+fn show_answer(a: Answer) {
+    match a {
+        Answer::Done { version, size } => {
+            io::write_all(STDOUT_FILENO, b"written");
+            show_number(version as u64);
+            show_number(size as u64);
+        }
+        Answer::PathOutside { index } => {
+            io::write_all(STDOUT_FILENO, b"refused 12");
+            show_number(index as u64);
+        }
+        Answer::NotProper => {
+            io::write_all(STDOUT_FILENO, b"refused 16");
+        }
+        Answer::TooLarge => {
+            io::write_all(STDOUT_FILENO, b"refused 15");
+        }
+        Answer::ShortOutput { size } => {
+            io::write_all(STDOUT_FILENO, b"refused 14");
+            show_number(size as u64);
+        }
+    }
+    io::write_all(STDOUT_FILENO, b"\n");
+}
+
+// TREE and the hash are asked for, and nothing else.
+fn only_tree(given: bool) -> Options {
+    Options {
+        tree: given,
+        cache: true,
+        eoie: false,
+        sparse: false,
+        unhashed: false,
+    }
+}
+
+// A node whose name goes from start to stop.
+fn put(
+    nodes: &mut [u8],
+    i: usize,
+    start: usize,
+    stop: usize,
+    count: u64,
+    subtrees: u64,
+    parent: u64,
+) {
+    let names = NAMES;
+    let n = Node {
+        start,
+        stop,
+        count,
+        subtrees,
+        id: 0,
+        next: 20,
+    };
+    node::put_node(&names, n, parent, nodes, i);
+}
+
+// 01's TREE: empty name, "2 1", newline, id, then "a", NUL, "-1 0", newline.
+fn tree_page() {
+    let file = *b"\x002 1\nAAAAAAAAAAAAAAAAAAAAa\0-1 0\n";
+    let mut nodes = [0u8; 144];
+    let mut out = [255u8; 33];
+    show_line(&file);
+    tree::read_tree(&file, 0, 32, &mut nodes);
+    tree_write::put_tree(&nodes, &file, &mut out, 0);
+    show_line(&out);
+}
+
+// A table of no records with the tree of a node table, and what was written.
+fn write_tree(nodes: &[u8]) {
+    let names = NAMES;
+    let none = [0u8; 0];
+    let mut out = [255u8; 128];
+    let a = write::write_to(&none, &none, nodes, &names, only_tree(true), &mut out);
+    show_answer(a);
+    show_line(&out);
+}
+
+// D10: children b, a are written a, b.
+fn order_page() {
+    let mut nodes = [0u8; 216];
+    put(&mut nodes, 0, 0, 0, node::MINUS_ONE, 2, node::MINUS_ONE);
+    put(&mut nodes, 1, 1, 2, node::MINUS_ONE, 0, 0);
+    put(&mut nodes, 2, 0, 1, 3, 0, 0);
+    write_tree(&nodes);
+}
+
+// D11: a count of 2^32 - 1, two children "a", a name with NUL; each is refused.
+fn improper_page() {
+    let mut nodes = [0u8; 216];
+    put(&mut nodes, 0, 0, 0, 4294967295, 2, node::MINUS_ONE);
+    put(&mut nodes, 1, 0, 1, node::MINUS_ONE, 0, 0);
+    put(&mut nodes, 2, 1, 2, node::MINUS_ONE, 0, 0);
+    write_tree(&nodes);
+    put(&mut nodes, 0, 0, 0, 4, 2, node::MINUS_ONE);
+    put(&mut nodes, 2, 0, 1, node::MINUS_ONE, 0, 0);
+    write_tree(&nodes);
+    put(&mut nodes, 2, 19, 22, node::MINUS_ONE, 0, 0);
+    write_tree(&nodes);
+}
+
+// The bytes of an entry without its path: a zero id, mode 100644.
+fn plain_entry() -> [u8; 60] {
+    let mut e = [0u8; 60];
+    e[26] = 129;
+    e[27] = 164;
+    e
+}
+
+// Room for the file of two long paths.
+fn room() -> [u8; 8352]
+    ensures { λ r. ⌜ 8352 ≡ length r ⌝ }
+{
+    [255; 8352]
+}
+
+// Two long paths: the file, of which the second entry's head is shown, and an output that is too short.
+fn write_long(records: &[u8], paths: &[u8]) {
+    let none = [0u8; 0];
+    let mut out = room();
+    let a = write::write_to(records, paths, &none, &none, only_tree(false), &mut out);
+    show_answer(a);
+    show_line(&out[4168..4236]);
+    let mut short = [255u8; 8];
+    let b = write::write_to(records, paths, &none, &none, only_tree(false), &mut short);
+    show_answer(b);
+    show_line(&short);
+}
+
+// D12: a path of 4095 bytes and another entry behind it, whose first bytes stand 4160 bytes behind the first's. D13: the mode ffffffff is written as it stands.
+fn long_page() {
+    let e = plain_entry();
+    let paths = [97u8; 4096];
+    let mut records = [0u8; 192];
+    entry::put_record(&e, 0, 0, 0, 4095, &mut records, 0);
+    entry::put_record(&e, 0, 0, 0, 4096, &mut records, 1);
+    records[120] = 255;
+    records[121] = 255;
+    records[122] = 255;
+    records[123] = 255;
+    write_long(&records, &paths);
+}
+
+fn main() {
+    tree_page();
+    order_page();
+    improper_page();
+    long_page();
+}

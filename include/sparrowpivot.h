@@ -1,0 +1,131 @@
+/*
+ * Sparrowpivot: Git index files read, and their records looked up. The functions are proved; this file is not, and tests/c_library holds it against them.
+ *
+ * Sizes and counts. A slice is passed as a pointer and a count of bytes, which may be 0; no pointer is NULL. A function reads and writes nothing but what it is
+ * lent, keeps no pointer and no state, and never allocates. No two slices of a call may overlap if one of them is written.
+ *
+ * Stores. Records, paths and nodes are bytes in memory of the caller's, of any alignment. A record takes SPARROWPIVOT_RECORD_SIZE bytes and a node
+ * SPARROWPIVOT_NODE_SIZE; what they hold is asked for by the functions below. Bytes behind the last whole record or node are no record and no node. A table is the
+ * whole slice lent: after reading n records lend n * SPARROWPIVOT_RECORD_SIZE bytes of the store.
+ *
+ * Answers. `values` are eight numbers of 64 bits; all eight are always written, and those that no comment names are 0. "0 or 1" is no or yes. A function that
+ * returns uint32_t returns 0 where it is done and else a number of `enum sparrowpivot_refusal`.
+ */
+#ifndef SPARROWPIVOT_H
+#define SPARROWPIVOT_H
+
+#include <stddef.h>
+#include <stdint.h>
+
+#ifdef __cplusplus
+extern "C" {
+#endif
+
+/* The bytes of a record and of a node in a store, of an id, and how many values an answer has. */
+#define SPARROWPIVOT_RECORD_SIZE 96
+#define SPARROWPIVOT_NODE_SIZE 72
+#define SPARROWPIVOT_ID_SIZE 20
+#define SPARROWPIVOT_VALUES 8
+
+/* A count of -1 (a node out of date), and the parent of the root. */
+#define SPARROWPIVOT_MINUS_ONE UINT64_MAX
+
+/* The refusals. What each carries is values[0], which is 0 where nothing is named. */
+enum sparrowpivot_refusal {
+    /* Reading. 1 to 4 leave every store as it was. */
+    SPARROWPIVOT_SHORT_FILE = 1,     /* under 32 bytes */
+    SPARROWPIVOT_NO_SIGNATURE = 2,   /* does not begin with "DIRC" */
+    SPARROWPIVOT_OTHER_VERSION = 3,  /* version not 2, 3 or 4; carries the version */
+    SPARROWPIVOT_BAD_TRAILER = 4,    /* the last 20 bytes are neither zeros nor the SHA-1 of the rest */
+    /* 5 and 6 leave the entries before the one they name; the rest of each store is as it was. */
+    SPARROWPIVOT_NOT_SPELLED = 5,    /* an entry is not spelled; carries its index */
+    SPARROWPIVOT_NO_ENTRY_ROOM = 6,  /* record or path room is missing for an entry; carries its index */
+    /* 7 and 8 leave all entries; the node store is as it was. */
+    SPARROWPIVOT_NOT_FILLED = 7,     /* extensions do not fill their space; carries the place in the file */
+    SPARROWPIVOT_MANDATORY = 8,      /* an extension that must be understood and is not; carries its signature, big-endian */
+    /* 9 and 10 leave all entries, and every byte of the node store is 0. */
+    SPARROWPIVOT_TOO_DEEP = 9,       /* the tree is deeper than 64 levels */
+    SPARROWPIVOT_NO_NODE_ROOM = 10,  /* the tree needs one more node than there is room for */
+    /* Lookup and order check. They write no store. */
+    SPARROWPIVOT_NO_STAGE = 11,      /* a stage above 3 is looked for */
+    SPARROWPIVOT_PATH_OUTSIDE = 12,  /* a record's path does not lie in the path store; carries the record's index */
+    SPARROWPIVOT_NOT_AFTER = 13,     /* a record is not strictly after the one before; carries its index */
+    /* Writing. They leave the output as it was. */
+    SPARROWPIVOT_SHORT_OUTPUT = 14,  /* the output is shorter than needed; carries the size needed */
+    SPARROWPIVOT_TOO_LARGE = 15,     /* over 2^32 - 1 records, or bytes before the place of EOIE */
+    SPARROWPIVOT_NOT_PROPER = 16     /* the node table is not proper */
+};
+
+/* ---- Reading */
+
+/*
+ * Reads an index file into three stores: a record for each entry, their paths one behind the other, and the nodes of its last TREE. Bytes behind those used stay as
+ * they were; a malformed TREE is no tree, and makes every byte of the node store 0.
+ * 0: version; 0 or 1, sparse; 0 or 1, there is a tree; records; path bytes; nodes used. Or 1 to 10.
+ */
+uint32_t sparrowpivot_read(const uint8_t *file, size_t file_len, uint8_t *records, size_t records_len, uint8_t *paths, size_t paths_len, uint8_t *nodes,
+    size_t nodes_len, uint64_t values[SPARROWPIVOT_VALUES]);
+
+/*
+ * Reads `count` entries, which begin behind the file's header, into two stores. Neither header nor trailer is looked at; the entries end before the last 20 bytes.
+ * 0: the place in the file behind the entries; path bytes used; 0 or 1, one entry is a directory. Or 5 or 6.
+ */
+uint32_t sparrowpivot_entries(const uint8_t *file, size_t file_len, uint32_t version, size_t count, uint8_t *records, size_t records_len, uint8_t *paths,
+    size_t paths_len, uint64_t values[SPARROWPIVOT_VALUES]);
+
+/* The most entries that a file of `file_size` bytes can have. `told` is 0 where it is not known where extensions begin; else they begin at `offset`. */
+uint64_t sparrowpivot_max_entries(size_t file_size, uint32_t told, size_t offset, uint32_t version);
+
+/* The SHA-1 of bytes. */
+void sparrowpivot_sha1(const uint8_t *bytes, size_t bytes_len, uint8_t out[SPARROWPIVOT_ID_SIZE]);
+
+/* ---- Extensions. None of these refuses: each returns 0. */
+
+/* EOIE. 0 or 1, there is one that holds; the place at which extensions begin. */
+uint32_t sparrowpivot_eoie(const uint8_t *file, size_t file_len, uint64_t values[SPARROWPIVOT_VALUES]);
+
+/* IEOT, the first among the extensions that begin at `offset`. 0 or 1, there is one; how many pairs it has. */
+uint32_t sparrowpivot_ieot_count(const uint8_t *file, size_t file_len, size_t offset, uint64_t values[SPARROWPIVOT_VALUES]);
+
+/* Pair number k of it, from 0 on. 0 or 1, there is one; the place in the file at which its block of entries begins; how many entries that has. */
+uint32_t sparrowpivot_ieot_pair(const uint8_t *file, size_t file_len, size_t offset, size_t k, uint64_t values[SPARROWPIVOT_VALUES]);
+
+/* ---- Tables */
+
+/*
+ * The record that has this path and stage, in a table in order (sparrowpivot_check_order). 0: 0 or 1, there is one; its index; how many records were compared.
+ * Or 11 or 12.
+ */
+uint32_t sparrowpivot_lookup(const uint8_t *records, size_t records_len, const uint8_t *paths, size_t paths_len, const uint8_t *key, size_t key_len,
+    uint32_t stage, uint64_t values[SPARROWPIVOT_VALUES]);
+
+/* Whether every path lies in the path store and each record is strictly after the one before, by path bytes and then stage. 0: it is so. Or 12 or 13. */
+uint32_t sparrowpivot_check_order(const uint8_t *records, size_t records_len, const uint8_t *paths, size_t paths_len, uint64_t values[SPARROWPIVOT_VALUES]);
+
+/*
+ * Record i; returns 0. Mode; flags (of a record that was read: bits 12 to 15, 29 and 30); stage; where its path starts and ends in the path store; 0 or 1, the path lies in the path store;
+ * 0 or 1, there is a record i; the size of its file. All are 0 where there is none.
+ */
+uint32_t sparrowpivot_record(const uint8_t *records, size_t records_len, const uint8_t *paths, size_t paths_len, size_t i,
+    uint64_t values[SPARROWPIVOT_VALUES]);
+
+/* More of record i; returns 0. ctime in seconds, and its nanoseconds; mtime in seconds, and its nanoseconds; dev; ino; uid; gid. */
+uint32_t sparrowpivot_record_stat(const uint8_t *records, size_t records_len, size_t i, uint64_t values[SPARROWPIVOT_VALUES]);
+
+/* The id of record i; zeros where there is none. */
+void sparrowpivot_record_id(const uint8_t *records, size_t records_len, size_t i, uint8_t out[SPARROWPIVOT_ID_SIZE]);
+
+/*
+ * Node i; returns 0. Where its name starts and ends in the file; its entry count, two's complement; its subtree count; its parent's index; 0 or 1, there is a
+ * node i. All are 0 where there is none.
+ */
+uint32_t sparrowpivot_node(const uint8_t *nodes, size_t nodes_len, size_t i, uint64_t values[SPARROWPIVOT_VALUES]);
+
+/* The id of node i; zeros where it has none, or where there is no such node. */
+void sparrowpivot_node_id(const uint8_t *nodes, size_t nodes_len, size_t i, uint8_t out[SPARROWPIVOT_ID_SIZE]);
+
+#ifdef __cplusplus
+}
+#endif
+
+#endif
