@@ -247,6 +247,9 @@ impl Judge {
         let need = needed(&rule);
         let rooms = Rooms { records: need.records + 2 * RECORD + 5, paths: need.paths + 77, nodes: need.nodes + NODE + 3 };
         let Some(ours) = self.read(s, rooms, &rule.reading) else { return };
+        if !self.entries(s, rooms) {
+            return;
+        }
         let Some(said) = said else {
             self.alike += 1;
             return;
@@ -264,6 +267,26 @@ impl Judge {
         } else if !self.parts(rust.row) {
             self.fail("against the Rust", &hex(s), &text, said);
         }
+    }
+    /// The entries alone, whatever the trailer is, by 01's rules: the Rust's `chunk` is asked within whole files only.
+    fn entries(&mut self, s: &[u8], rooms: Rooms) -> bool {
+        if s.len() < 12 || !(2..=4).contains(&model::word(s, 4)) {
+            return true;
+        }
+        let (version, count) = (model::word(s, 4), model::word(s, 8) as usize);
+        let (rule, next) = model::entries(s, version, count, rooms);
+        let r = &rule.reading;
+        let wanted = match r.refused {
+            Some((n, k)) => (n, [k, 0, 0, 0, 0, 0, 0, 0]),
+            None => (0, [next as u64, r.path_bytes as u64, r.sparse as u64, 0, 0, 0, 0, 0]),
+        };
+        let (n, v, records, paths) = library::entries(s, version, count, rooms);
+        let bytes = model::stores(r, rooms);
+        let good = (n, v) == wanted && records.is(&bytes[0]) && paths.is(&bytes[1]);
+        if !good {
+            self.fail(&format!("the entries alone, {rooms:?}"), &hex(s), &format!("{:?}", (n, v)), &format!("{wanted:?}"));
+        }
+        good
     }
     /// Reads a file into stores of these sizes and compares answer, values, and every byte lent.
     fn read(&mut self, s: &[u8], rooms: Rooms, rule: &Reading) -> Option<Reading> {
@@ -316,7 +339,7 @@ impl Judge {
         }
         for rooms in &all {
             let rule = model::ours(s, *rooms).reading;
-            let compare = |j: &mut Judge| j.alike += j.read(s, *rooms, &rule).is_some() as usize;
+            let compare = |j: &mut Judge| j.alike += (j.read(s, *rooms, &rule).is_some() && j.entries(s, *rooms)) as usize;
             self.guarded(compare, || hex(s));
         }
         all.len()

@@ -4,6 +4,7 @@ use crate::model::{Entry, Node, Nodes, Reading, Rooms, NODE, RECORD};
 #[link(name = "sparrowpivot", kind = "static")]
 extern "C" {
     fn sparrowpivot_read(file: *const u8, n: usize, records: *mut u8, nr: usize, paths: *mut u8, np: usize, nodes: *mut u8, nn: usize, values: *mut u64) -> u32;
+    fn sparrowpivot_entries(file: *const u8, n: usize, version: u32, count: usize, records: *mut u8, nr: usize, paths: *mut u8, np: usize, values: *mut u64) -> u32;
     fn sparrowpivot_record(records: *const u8, nr: usize, paths: *const u8, np: usize, i: usize, values: *mut u64) -> u32;
     fn sparrowpivot_record_stat(records: *const u8, nr: usize, i: usize, values: *mut u64) -> u32;
     fn sparrowpivot_record_id(records: *const u8, nr: usize, i: usize, out: *mut u8);
@@ -97,6 +98,14 @@ pub fn read(file: &[u8], rooms: Rooms, entries: usize) -> Ours {
         reading.node_store = if v[2] == 1 { Nodes::Filled } else { Nodes::Untouched };
     }
     Ours { reading, records, paths, nodes }
+}
+
+/// The entries alone: the number returned, the eight values, and the two stores.
+pub fn entries(file: &[u8], version: u32, count: usize, rooms: Rooms) -> (u32, [u64; 8], Store, Store) {
+    let (mut records, mut paths, mut v) = (Store::new(rooms.records), Store::new(rooms.paths), Values::new());
+    let (r, p) = (records.lent_mut(), paths.lent_mut());
+    let n = unsafe { sparrowpivot_entries(file.as_ptr(), file.len(), version, count, r.as_mut_ptr(), r.len(), p.as_mut_ptr(), p.len(), v.lend()) };
+    (n, v.told(), records, paths)
 }
 
 fn record(records: &Store, paths: &Store, i: usize) -> Option<Entry> {

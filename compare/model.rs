@@ -120,6 +120,13 @@ pub fn rust(file: &[u8]) -> Run {
     run(file, true, ALL)
 }
 
+/// What `sparrowpivot_entries` must answer of a file's entries alone: the run, and where the entries end.
+pub fn entries(file: &[u8], version: u32, count: usize, rooms: Rooms) -> (Run, usize) {
+    let mut w = Walk { file, rust: false, rooms, run: Run::default() };
+    let next = w.entries(version, count).unwrap_or(0);
+    (w.run, next)
+}
+
 fn run(file: &[u8], rust: bool, rooms: Rooms) -> Run {
     let mut w = Walk { file, rust, rooms, run: Run::default() };
     let _ = w.whole();
@@ -194,7 +201,7 @@ impl Walk<'_> {
     /// The entry at `at` and where the next one begins. The Rust's may reach to the end of the file.
     fn entry(&mut self, version: u32, at: usize) -> Option<(Entry, usize)> {
         let s = self.file;
-        let limit = s.len() - TRAILER;
+        let limit = s.len().saturating_sub(TRAILER);
         let end = if self.rust { s.len() } else { limit };
         let has = |at: usize, n: usize| n <= end.saturating_sub(at);
         if !has(at, 62) {
