@@ -9,3 +9,4 @@ pub mod Kept
 pub mod Claims
 pub mod Tree
 pub mod Trees
+pub mod Eoie

@@ -164,7 +164,7 @@ module _ (rs ps ns nm : List ℕ) (o : Options) where
   abbrev pub count : ℕ
   count = countOf rs records 0
 
-  tree-small : length (bodyBytes 20 64 rs ps ns nm o) ≤ most → writesTree o ≡ true → length (treeBody ns nm) < 2 ^ 32
+  pub tree-small : length (bodyBytes 20 64 rs ps ns nm o) ≤ most → writesTree o ≡ true → length (treeBody ns nm) < 2 ^ 32
   unfolding bodyBytes bodyOf extensionsOf treeOf
   tree-small h e =
       let front : List ℕ = frontOf 20 rs ps (versionOf rs) count in
