@@ -8,5 +8,6 @@ pub mod Reading
 pub mod Kept
 pub mod Claims
 pub mod Tree
+pub mod Count
 pub mod Trees
 pub mod Eoie

@@ -76,6 +76,7 @@ both false e = absurd (false-true e)
 
 -- what node i alone says
 pub record GoodNode (limit : ℕ) (ns nm : List ℕ) (i : ℕ) : Type 0 where
+  pub parent : parentFits ns i ≡ true
   pub count : countFits ns i ≡ true
   pub name : holdsNone (nameAt nm ns i) ≡ true
   pub climb : climbs ns limit i ≡ true
@@ -99,7 +100,7 @@ module _ (limit : ℕ) (ns nm : List ℕ) (proper : isProper limit ns nm ≡ tru
       let (e₅, e₆) = both (nameFits ns nm i) e₄ in
       let (e₇, e₈) = both (nameInside nm ns i) e₅ in
       let (f₁, f₂) = both (eqb (subtreesAt ns i) (childCount ns i (nodesIn ns - 1) 1)) f in
-      record { count = e₃; name = e₈; climb = e₆; subtrees = eqb-true (subtreesAt ns i) (childCount ns i (nodesIn ns - 1) 1) f₁; differ = f₂ }
+      record { parent = e₁; count = e₃; name = e₈; climb = e₆; subtrees = eqb-true (subtreesAt ns i) (childCount ns i (nodesIn ns - 1) 1) f₁; differ = f₂ }
 
 -- ---- the head
 
@@ -168,12 +169,12 @@ head-spelled n limit ns nm i small few h g =
 -- ---- how many children there are
 
 -- the sum of f over k numbers from j on
-unfoldable total : (ℕ → ℕ) → ℕ → ℕ → ℕ
+unfoldable pub total : (ℕ → ℕ) → ℕ → ℕ → ℕ
 total f zero j = 0
 total f (suc k) j = f j + total f k (j + 1)
 
 -- how often j stands in a list
-unfoldable hits : List ℕ → ℕ → ℕ
+unfoldable pub hits : List ℕ → ℕ → ℕ
 hits [] j = 0
 hits (x ∷ l) j = pick (eqb x j) 1 0 + hits l j
 
@@ -187,7 +188,7 @@ unfolding total
 total-sum f g zero j = refl
 total-sum f g (suc k) j = omega (arith, total-sum f g k (j + 1))
 
-total-same : (f g : ℕ → ℕ) (k j : ℕ) → ((x : ℕ) → j ≤ x → x < j + k → f x ≡ g x) → total f k j ≡ total g k j
+pub total-same : (f g : ℕ → ℕ) (k j : ℕ) → ((x : ℕ) → j ≤ x → x < j + k → f x ≡ g x) → total f k j ≡ total g k j
 unfolding total
 total-same f g zero j h = refl
 total-same f g (suc k) j h = omega (arith, total-same f g k (j + 1) (λ x a b. h x (omega arith) (omega arith)), h j (omega arith) (omega arith))
@@ -207,14 +208,14 @@ total-one x (suc k) j h l = by (same? x j) (λ a. total-one x k (j + 1) a (omega
     by (same e) ih = omega (arith, total-past x k (j + 1) (omega arith))
     by (differs d) ih = omega (arith, ih (omega arith))
 
-total-hits : (l : List ℕ) (k j : ℕ) → ((x : ℕ) → Mem x l → (j ≤ x) × (x < j + k)) → total (hits l) k j ≡ length l
+pub total-hits : (l : List ℕ) (k j : ℕ) → ((x : ℕ) → Mem x l → (j ≤ x) × (x < j + k)) → total (hits l) k j ≡ length l
 unfolding hits
 total-hits [] k j h = total-zero k j
 total-hits (x ∷ l) k j h =
     let (a, b) = h x here in
     total-sum (λ y. pick (eqb x y) 1 0) (hits l) k j ∙ omega (arith, total-one x k j a b, total-hits l k j (λ y m. h y (there m)))
 
-no-hits : (l : List ℕ) (j : ℕ) → (Mem j l → ⊥) → hits l j ≡ 0
+pub no-hits : (l : List ℕ) (j : ℕ) → (Mem j l → ⊥) → hits l j ≡ 0
 unfolding hits
 no-hits [] j h = refl
 no-hits (x ∷ l) j h = by (same? x j) (no-hits l j (λ m. h (there m)))
@@ -223,7 +224,7 @@ no-hits (x ∷ l) j h = by (same? x j) (no-hits l j (λ m. h (there m)))
     by (same e) ih = absurd (h (subst (λ (y : ℕ). Mem j (y ∷ l)) (sym e) here))
     by (differs d) ih = omega arith
 
-one-hit : (R : ℕ → ℕ → Type 0) → ((x : ℕ) → R x x → ⊥) → {l : List ℕ} → Rising R l → (j : ℕ) → Mem j l → hits l j ≡ 1
+pub one-hit : (R : ℕ → ℕ → Type 0) → ((x : ℕ) → R x x → ⊥) → {l : List ℕ} → Rising R l → (j : ℕ) → Mem j l → hits l j ≡ 1
 unfolding hits
 one-hit R irr (more {x = x} {xs = l} r rest) j m = go x r m (λ k. one-hit R irr rest j k)
   where
@@ -241,16 +242,16 @@ module _ (ns nm : List ℕ) (p : ℕ) where
   first j = refl
 
   -- exactly the nodes with that parent
-  kids-are : (j : ℕ) → Mem j kidsOf → (0 < j) × (j < nodesIn ns) × (parentAt ns j ≡ p)
+  pub kids-are : (j : ℕ) → Mem j kidsOf → (0 < j) × (j < nodesIn ns) × (parentAt ns j ≡ p)
   kids-are j m =
       let (l, c) = goes ns nm p (nodesIn ns) 0 .inside j m in
       let r : 0 < j = c .real in
       (r, omega arith, c .child)
 
-  kids-all : (j : ℕ) → 0 < j → j < nodesIn ns → parentAt ns j ≡ p → Mem j kidsOf
+  pub kids-all : (j : ℕ) → 0 < j → j < nodesIn ns → parentAt ns j ≡ p → Mem j kidsOf
   kids-all j r l q = goes ns nm p (nodesIn ns) 0 .whole (omega (arith, tally-all (cand ns nm p 0) (top ns))) j (omega arith) (record { real = r; child = q; past = first j })
 
-  kids-rise : Rising (λ x y. before ns nm x y ≡ true) kidsOf
+  pub kids-rise : Rising (λ x y. before ns nm x y ≡ true) kidsOf
   kids-rise = goes ns nm p (nodesIn ns) 0 .rising
 
   counted : (k j : ℕ) → total (λ y. pick (isChild ns p y) 1 0) k j ≡ childCount ns p k j
@@ -276,7 +277,7 @@ pub data Level (ns : List ℕ) : ℕ → ℕ → Type 0 where
   root : Level ns 1 0
   below : {k i j : ℕ} → 0 < j → parentAt ns j ≡ i → Level ns k i → Level ns (suc k) j
 
-level-within : {ns : List ℕ} {k i : ℕ} → Level ns k i → (levels : ℕ) → climbs ns levels i ≡ true → k ≤ levels
+pub level-within : {ns : List ℕ} {k i : ℕ} → Level ns k i → (levels : ℕ) → climbs ns levels i ≡ true → k ≤ levels
 unfolding climbs
 level-within root zero e = absurd (false-true e)
 level-within root (suc levels) e = omega arith
