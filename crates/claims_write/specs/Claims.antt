@@ -1,11 +1,11 @@
--- DEMAND 2 (issue 7, 2): what the writer writes reads back. The reader, on the first `size` bytes of the output and with stores that are large enough, accepts, answers the version,
--- and its records show the table's, in order, without those marked REMOVE. Over all tables, both versions, with or without TREE, `sdir`, EOIE and hash. Assumes that the file is
--- bytes and that no slice has 2^64 bytes or more, the premise `Slices`.
+-- DEMAND 2 (issue 7, 2 and 3): what the writer writes reads back. The reader, on the first `size` bytes of the output and with stores that are large enough, accepts, answers the version,
+-- and its records show the table's, in order, without those marked REMOVE; and it stores the tree. Over all tables, both versions, with or without TREE, `sdir`, EOIE and hash. Assumes
+-- that the file is bytes and that no slice has 2^64 bytes or more, premises with names.
 use Prim.Native.Nat.{ℕ, _+_, _*_, _/_, _%_, _^_, _≤_, _<_}
 use mathlib.Core.Path.{_≡_, refl, sym, ap, _∙_, subst}
 use mathlib.Core.Bool.{Bool, true, false}
 use mathlib.Core.List.{List}
-use mathlib.Core.Option.{some}
+use mathlib.Core.Option.{Option, none, some}
 use native.Mathlib.Omega.{arith}
 use lib.ListN.{length, getElem?}
 use Rattle.laws.specs.Pick.{pick}
@@ -13,23 +13,26 @@ use Rattle.laws.specs.Tests.{Same, same, differs, same?}
 use Rattle.sha1.specs.Sha1.{sha1}
 use Rattle.entry.specs.Flags.{stageRaw, keepFlags, toStorage}
 use Rattle.entry.specs.Record.{recordsIn, flagsAt}
-use Rattle.grammar.specs.File.{Index, File, countOf}
+use Rattle.node.specs.Store.{nodesIn}
+use Rattle.grammar.specs.Tree.{Tree}
+use Rattle.grammar.specs.DecideTree.{readTree}
+use Rattle.grammar.specs.File.{Index, countOf}
 use Rattle.file.specs.Read.{Outcome, readFile}
-use Rattle.file.specs.declared.Answer.{Answer as ReadAnswer}
 use Rattle.file.specs.declared.Answer.the-variants.{Read}
 use Rattle.claims_entries.specs.Rendering.{recordsBytes, pathsBytes}
 use Rattle.claims_entries.specs.Said.{filled, Fits}
 use Rattle.claims_entries.specs.Fields.{Shows}
 use Rattle.claims.specs.Premises.{Slices}
-use Rattle.claims.specs.Claims.{hasTree, nodesOf, NodesAfter, Renders}
+use Rattle.claims_tree.specs.Rendering.{treeBytes}
+use Rattle.claims.specs.Claims.{hasTree, nodesOf, NodesAfter, the-tree, Renders}
 use Rattle.write.specs.declared.Options.{Options}
 use Rattle.write.specs.declared.Answer.the-variants.{Done}
-use Rattle.write.specs.Entries.{isGone}
-use Rattle.write.specs.File.{writeAll}
+use Rattle.write.specs.File.{writesTree, writeAll}
 use Rattle.claims_write.specs.Meaning.{statOf, writtenFlags, meaningOf, keptOf, meaningsOf, PathsEnd, MarksFit, Writable, WritableTable, NoneRemoved, SameEntry}
-use Rattle.claims_write.specs.Spelled.{indexOf, written, done-says, fileIn, file-is}
+use Rattle.claims_write.specs.Spelled.{treeBody, treePlace, indexOf, written, done-says, fileIn, file-is}
 use Rattle.claims_write.specs.Reading.{TreeRoom, count-w, renders-w, shown-w}
 use Rattle.claims_write.specs.Kept.{at-map, kept-is, kept-here}
+use Rattle.claims_write.specs.Trees.{treeWritten, tree-is-meant, written-tree-nodes, room-for-tree}
 
 -- ---- the flags
 
@@ -59,9 +62,18 @@ same-entry rs ps i rs′ ps′ j fit x =
       path = x .path;
     }
 
+-- ---- PREMISES: the stores lent to the reader are large enough
+
+-- for the records and the path bytes of all that is written, and where TREE is written for as many nodes as the node table has
+pub record Roomy (rs ps ns : List ℕ) (o : Options) (records′ paths′ nodes′ : List ℕ) : Type 0 where
+  pub records : length (keptOf rs) * 96 ≤ length records′
+  pub paths : length (pathsBytes (meaningsOf 20 rs ps)) ≤ length paths′
+  pub nodes : writesTree o ≡ true → nodesIn ns ≤ nodesIn nodes′
+
 -- ---- THE THEOREMS
 
-module _ (rs ps ns nm : List ℕ) (o : Options) (out : List ℕ) (version size : ℕ) (done : writeAll 20 sha1 64 rs ps ns nm o out .answer ≡ Done version size) (ends : PathsEnd rs ps) (records′ paths′ nodes′ : List ℕ) where
+module _ (rs ps ns nm : List ℕ) (o : Options) (out : List ℕ) (version size : ℕ) (done : writeAll 20 sha1 64 rs ps ns nm o out .answer ≡ Done version size) (few : length ns < 2 ^ 64) (ends : PathsEnd rs ps)
+    (records′ paths′ nodes′ : List ℕ) where
   -- the written file, and what the reader makes of it
   abbrev pub bytes : List ℕ
   bytes = fileIn rs ps ns nm o out version size done
@@ -69,32 +81,50 @@ module _ (rs ps ns nm : List ℕ) (o : Options) (out : List ℕ) (version size :
   abbrev pub reading : Outcome
   reading = readFile 20 64 bytes records′ paths′ nodes′
 
-  -- room for the records and the path bytes of all that is written
-  abbrev pub EntryRoom : Type 0
-  EntryRoom = Fits records′ paths′ (length (keptOf rs)) (meaningsOf 20 rs ps)
+  abbrev pub index : Index
+  index = indexOf rs ps ns nm o
 
-  module _ (slices : Slices bytes paths′ nodes′) (room : EntryRoom) (tree-room : TreeRoom ns nm o nodes′) where
+  module _ (slices : Slices bytes paths′ nodes′) (roomy : Roomy rs ps ns o records′ paths′ nodes′) where
     same-file : bytes ≡ written rs ps ns nm o
     same-file = file-is rs ps ns nm o out version size done
 
     slices-w : Slices (written rs ps ns nm o) paths′ nodes′
     slices-w = subst (λ (b : List ℕ). Slices b paths′ nodes′) same-file slices
 
+    room : Fits records′ paths′ (length (keptOf rs)) (meaningsOf 20 rs ps)
+    room = record { records = roomy .records; paths = roomy .paths }
+
+    tree-room : TreeRoom ns nm o nodes′
+    tree-room e = room-for-tree rs ps ns nm o out version size done few e nodes′ (roomy .nodes e)
+
     -- answer and stores are the rendering of the index that was written
-    pub written-renders : Renders bytes records′ paths′ nodes′ (indexOf rs ps ns nm o) reading
+    pub written-renders : Renders bytes records′ paths′ nodes′ index reading
     written-renders =
         let d = done-says rs ps ns nm o out version size done in
-        subst (λ (b : List ℕ). Renders b records′ paths′ nodes′ (indexOf rs ps ns nm o) (readFile 20 64 b records′ paths′ nodes′)) (sym same-file)
+        subst (λ (b : List ℕ). Renders b records′ paths′ nodes′ index (readFile 20 64 b records′ paths′ nodes′)) (sym same-file)
         (renders-w rs ps ns nm o (d .few) (d .short) ends records′ paths′ nodes′ slices-w room tree-room)
 
-    -- it is read, with the version that the writer answered and as many records as were written
-    pub reads-back : reading .answer ≡ Read version (indexOf rs ps ns nm o .sparse) (hasTree (indexOf rs ps ns nm o .tree)) (length (keptOf rs)) (length (pathsBytes (meaningsOf 20 rs ps))) (nodesOf (indexOf rs ps ns nm o .tree))
+    tree-told : hasTree (index .tree) ≡ writesTree o
+    tree-told = by (writesTree o) refl
+      where
+        by : (t : Bool) → writesTree o ≡ t → hasTree (index .tree) ≡ t
+        by true e = ap hasTree (tree-is-meant rs ps ns nm o out version size done few e)
+        by false e = ap hasTree (ap (λ (t : Bool). pick t (readTree 20 (treePlace rs ps) (treeBody ns nm)) none) e)
+
+    nodes-told : nodesOf (index .tree) ≡ pick (writesTree o) (nodesIn ns) 0
+    nodes-told = by (writesTree o) refl
+      where
+        by : (t : Bool) → writesTree o ≡ t → nodesOf (index .tree) ≡ pick t (nodesIn ns) 0
+        by true e = ap nodesOf (tree-is-meant rs ps ns nm o out version size done few e) ∙ written-tree-nodes rs ps ns nm o out version size done few e
+        by false e = ap nodesOf (ap (λ (t : Bool). pick t (readTree 20 (treePlace rs ps) (treeBody ns nm)) none) e)
+
+    -- it is read: the version that the writer answered, sparse as asked or by a directory, a tree exactly if TREE was written, as many records as were written, and as many nodes as the table has
+    pub reads-back : reading .answer ≡ Read version (index .sparse) (writesTree o) (length (keptOf rs)) (length (pathsBytes (meaningsOf 20 rs ps))) (pick (writesTree o) (nodesIn ns) 0)
     reads-back =
         let d = done-says rs ps ns nm o out version size done in
         let c : countOf bytes ≡ length (keptOf rs) = ap countOf same-file ∙ count-w rs ps ns nm o (d .few) (d .short) ends records′ paths′ nodes′ slices-w room tree-room in
         let v = d .version-is in
-        written-renders .answer
-        ∙ (λ j. Read (sym v j) (indexOf rs ps ns nm o .sparse) (hasTree (indexOf rs ps ns nm o .tree)) (c j) (length (pathsBytes (meaningsOf 20 rs ps))) (nodesOf (indexOf rs ps ns nm o .tree)))
+        written-renders .answer ∙ (λ j. Read (sym v j) (index .sparse) (tree-told j) (c j) (length (pathsBytes (meaningsOf 20 rs ps))) (nodes-told j))
 
     -- record j shows the meaning of the j-th record that was written
     pub shows-written : (j i : ℕ) → getElem? (keptOf rs) j ≡ some i → Shows 20 (reading .records) (reading .paths) j (meaningOf 20 rs ps i)
@@ -115,3 +145,14 @@ module _ (rs ps ns nm : List ℕ) (o : Options) (out : List ℕ) (version size :
     table-reads-back fit stays i h =
         let e : 0 + i ≡ i = omega arith in
         written-reads-back fit i i (subst (λ (m : ℕ). getElem? (keptOf rs) i ≡ some m) e (kept-here rs (recordsIn rs) 0 (λ m a b. stays m (omega arith)) i h))
+
+    -- where TREE was written the reader stores its tree, siblings sorted by name; where it was not, the node store is as it was
+    pub tree-reads-back : writesTree o ≡ true → reading .nodes ≡ filled nodes′ (treeBytes (treeWritten rs ps ns nm))
+    tree-reads-back e = of (subst (λ (t : Option Tree). NodesAfter bytes nodes′ t (reading .nodes)) (tree-is-meant rs ps ns nm o out version size done few e) (written-renders .nodes))
+      where
+        of : {s : List ℕ} {t : Tree} {l : List ℕ} → NodesAfter s nodes′ (some t) l → l ≡ filled nodes′ (treeBytes t)
+        of the-tree = refl
+
+-- the premise on paths is a part of what a table that loses nothing is
+pub writable-ends : (rs ps : List ℕ) → WritableTable rs ps → PathsEnd rs ps
+writable-ends rs ps fit i h stays = fit i h stays .path

@@ -1,13 +1,13 @@
--- The modules of claims_write: `Meaning` is to be read; `Entries`, `Extensions` and `Spelled` prove that what is written is spelled; `Kept` and `Reading` lead to `Claims`, which has the
--- theorems on reading back.
+-- The modules of claims_write. To be read: `Meaning`, and the theorems of `Spelled` (what is written is spelled), `Trees` (and so is the tree), `Eoie` (EOIE is found) and `Claims` (demand 2,
+-- what is written reads back). `Entries`, `Extensions`, `Tree`, `Count`, `Kept` and `Reading` lead there.
 pub mod Meaning
 pub mod Entries
 pub mod Extensions
 pub mod Spelled
-pub mod Reading
-pub mod Kept
-pub mod Claims
 pub mod Tree
 pub mod Count
 pub mod Trees
 pub mod Eoie
+pub mod Kept
+pub mod Reading
+pub mod Claims
