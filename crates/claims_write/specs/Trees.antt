@@ -13,6 +13,7 @@ use Rattle.sha1.specs.Sha1.{sha1}
 use Rattle.grammar.specs.Tree.{Tree, depth, nodes, Node}
 use Rattle.grammar.specs.Reach.{depth-within, nodes-within}
 use Rattle.grammar.specs.DecideTree.{readTree, tree-decided}
+use Rattle.claims_tree.specs.Rendering.{treeBytes}
 use Rattle.claims_tree.specs.Said.{lent, KeepsWithinDepth, HasRoom}
 use Rattle.node.specs.Store.{nodesIn}
 use Rattle.tree_write.specs.Proper.{isProper}
@@ -22,6 +23,7 @@ use Rattle.write.specs.File.{writesTree, treeFits, writeAll}
 use Rattle.claims_write.specs.Spelled.{treeBody, treePlace, treeMeant, done-says}
 use Rattle.claims_write.specs.Tree.{treeAt, tree-spelled, tree-shallow, Sorted, tree-sorted}
 use Rattle.claims_write.specs.Count.{tree-nodes}
+use Rattle.claims_write.specs.Listed.{InFileOrder, Rows, same-list}
 
 -- the tree of a node table, in a file with this record table: its names stand behind the entries
 abbrev pub treeWritten : List ℕ → List ℕ → List ℕ → List ℕ → Tree
@@ -56,3 +58,7 @@ module _ (rs ps ns nm : List ℕ) (o : Options) (out : List ℕ) (version size :
         depth-within 20 (treeBody ns nm) (treePlace rs ps) v x 64 .1 (tree-shallow 20 64 ns nm (lit≤ tt) few proper (treePlace rs ps)),
         nodes-within 20 (treeBody ns nm) (treePlace rs ps) v x (lent nodes′) .1 (omega (arith, written-tree-nodes)),
       )
+
+  -- where the table's nodes stand in the order in which they are written, what is stored of the tree is the same node list, name places aside
+  pub same-nodes-are-stored : InFileOrder 64 ns nm → Rows 20 ns nm 0 (nodesIn ns) (treeBytes (treeWritten rs ps ns nm))
+  same-nodes-are-stored order = same-list 20 64 ns nm proper order (treePlace rs ps)
