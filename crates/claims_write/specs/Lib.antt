@@ -12,3 +12,4 @@ pub mod Eoie
 pub mod Kept
 pub mod Reading
 pub mod Claims
+pub mod Example
