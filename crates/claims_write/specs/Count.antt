@@ -13,10 +13,11 @@ use Rattle.laws.specs.Tests.{lt-or-ge, tri, Same, same, differs, same?}
 use Rattle.node.specs.Store.{nodesIn, parentAt}
 use Rattle.tree_write.specs.Order.{before, false-true, before-not}
 use Rattle.tree_write.specs.Tree.{headBytes, each, nodeBytes}
-use Rattle.tree_write.specs.Proper.{parentFits, climbs, isProper}
+use Rattle.tree_write.specs.Proper.{climbs}
+use Rattle.tree_write.specs.Table.{Proper}
 use Rattle.tree_write.specs.Kids.{Mem, here, there, not-mem}
 use Rattle.grammar.specs.Tree.{Tree, Subtrees, nodes, nodesOf}
-use Rattle.claims_write.specs.Tree.{total, hits, total-same, total-hits, no-hits, one-hit, kidsOf, kids-are, kids-all, kids-rise, Level, root, below, level-within, some-node, GoodNode, good-node, subtreesOf, treeAt}
+use Rattle.claims_write.specs.Tree.{total, hits, total-same, total-hits, no-hits, one-hit, kidsOf, kids-are, kids-all, kids-rise, Level, root, below, level-within, subtreesOf, treeAt}
 
 -- ---- the nodes of the tree, in the order in which they are written
 
@@ -99,14 +100,7 @@ unfolding sumOver hits
 sum-hits a [] = refl
 sum-hits a (x ∷ l) = omega (arith, sum-hits a l)
 
-module _ (limit : ℕ) (ns nm : List ℕ) (proper : isProper limit ns nm ≡ true) where
-  parent-low : (j : ℕ) → 0 < j → j < nodesIn ns → parentAt ns j < j
-  unfolding parentFits
-  parent-low j a h =
-      let e = good-node limit ns nm proper j h .parent in
-      let d : j ≡ 0 → ⊥ = λ q. omega arith in
-      ltb-true (parentAt ns j) j (rw (ne-eqb j 0 d) at e)
-
+module _ (limit : ℕ) (ns nm : List ℕ) (proper : Proper limit ns nm) where
   -- a node's parent m levels up has its depth
   up-level : (m k j : ℕ) → Level ns k j → j < nodesIn ns → m < k → Level ns (k - m) (up ns m j) × (up ns m j < nodesIn ns)
   unfolding up
@@ -115,7 +109,7 @@ module _ (limit : ℕ) (ns nm : List ℕ) (proper : isProper limit ns nm ≡ tru
       let (x, y) = up-level m k j l h (omega arith) in
       let (b, z) = level-parent x (omega arith) in
       let e : k - m - 1 ≡ k - suc m = omega arith in
-      (subst (λ (q : ℕ). Level ns q (parentAt ns (up ns m j))) e z, omega (arith, parent-low (up ns m j) b y))
+      (subst (λ (q : ℕ). Level ns q (parentAt ns (up ns m j))) e z, omega (arith, proper .parents (up ns m j) b y))
 
   -- among the children of i: those nodes whose parent is i
   hits-kids : (i a : ℕ) → 0 < a → a < nodesIn ns → {t : Bool} → Same i (parentAt ns a) t → hits (kidsOf ns nm i) a ≡ pick t 1 0
@@ -128,7 +122,7 @@ module _ (limit : ℕ) (ns nm : List ℕ) (proper : isProper limit ns nm ≡ tru
 
   met : (d k i m j : ℕ) → i < nodesIn ns → Level ns k i → k + d ≡ limit + 1 → j < nodesIn ns → Level ns m j → hits (walk ns nm d i) j ≡ under k i m j
   unfolding walk hits up
-  met zero k i m j h l e hj lj = absurd (omega (arith, level-within l limit (good-node limit ns nm proper i h .climb)))
+  met zero k i m j h l e hj lj = absurd (omega (arith, level-within l limit (proper .depth i h)))
   met (suc d) k i m j h l e hj lj =
       by (lt-or-ge k m) (λ x q. let (a, b, c) = kids-are ns nm i x q in met d (suc k) x m j b (below a c l) (omega arith) hj lj)
     where
@@ -182,11 +176,11 @@ module _ (limit : ℕ) (ns nm : List ℕ) (proper : isProper limit ns nm ≡ tru
   -- each node of the table is met once
   met-once : (j : ℕ) → j < nodesIn ns → hits (walk ns nm limit 0) j ≡ 1
   met-once j h =
-      let (m, l) = level-found ns limit j (good-node limit ns nm proper j h .climb) in
+      let (m, l) = level-found ns limit j (proper .depth j h) in
       let s : 1 ≤ m = level-some l in
       let (x, y) = up-level (m - 1) m j l h (omega arith) in
       let z : 0 ≡ up ns (m - 1) j = sym (level-one x (omega arith)) in
-      met limit 1 0 m j (some-node limit ns nm proper) root (omega arith) h l ∙ rw (le-leb 1 m s, eq-eqb 0 (up ns (m - 1) j) z)
+      met limit 1 0 m j (proper .some) root (omega arith) h l ∙ rw (le-leb 1 m s, eq-eqb 0 (up ns (m - 1) j) z)
 
   total-ones : (k j : ℕ) → total (λ x. 1) k j ≡ k
   unfolding total
@@ -195,7 +189,7 @@ module _ (limit : ℕ) (ns nm : List ℕ) (proper : isProper limit ns nm ≡ tru
 
   pub walk-length : length (walk ns nm limit 0) ≡ nodesIn ns
   walk-length =
-      sym (total-hits (walk ns nm limit 0) (nodesIn ns) 0 (λ x m. let a = walk-inside limit 0 x (some-node limit ns nm proper) m in (omega arith, omega arith)))
+      sym (total-hits (walk ns nm limit 0) (nodesIn ns) 0 (λ x m. let a = walk-inside limit 0 x (proper .some) m in (omega arith, omega arith)))
       ∙ total-same (hits (walk ns nm limit 0)) (λ x. 1) (nodesIn ns) 0 (λ x a b. met-once x (omega arith))
       ∙ total-ones (nodesIn ns) 0
 

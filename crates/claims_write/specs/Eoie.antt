@@ -19,14 +19,14 @@ use Rattle.extension.specs.Theorems.{Fits, Stands, Chain, chain-filled, chain-m
 use Rattle.extension.specs.Telling.{beginning, Tells, tells-told}
 use Rattle.extension.specs.declared.end_of_index_entry.Told.the-variants.{Offset}
 use Rattle.grammar.specs.Extension.{Ext, ext, sdir, TREE}
-use Rattle.grammar.specs.DecideFile.{header-length}
 use Rattle.write.specs.declared.Options.{Options}
 use Rattle.write.specs.declared.Answer.the-variants.{Done}
 use Rattle.write.specs.Entries.{tableBytes, countOf}
 use Rattle.write.specs.File.{headerOf, extensionHead, treeHead, sparsePart, contents, eoiePart, trailerOf, frontOf, extensionsOf, bodyOf, offsetOf, closedOf, fileOf, writesTree, hasEoie, treeOf, bodyBytes, fileBytes, most, versionOf, writeAll}
 use Rattle.write.specs.Hash.{length-sha1}
+use Rattle.write.specs.Parts.{length-head, length-header, length-trailer}
 use Rattle.claims_write.specs.Extensions.{EOIE, extensionsMeant}
-use Rattle.claims_write.specs.Spelled.{treeBody, written, done-says, fileIn, file-is, length-trailer, tree-small, count, toc, before, header-here, has}
+use Rattle.claims_write.specs.Spelled.{treeBody, written, done-says, fileIn, file-is, tree-small, count, toc, before, has}
 
 -- ---- extensions one behind the other, and their signatures and sizes
 
@@ -43,10 +43,6 @@ pub data Sized : List Ext → Type 0 where
   one-sized : {e : Ext} {es : List Ext} → length (e .signature) ≡ 4 → length (e .body) < 2 ^ 32 → Sized es → Sized (e ∷ es)
 
 -- ---- a head where it stands
-
-length-head : (signature : List ℕ) (size : ℕ) → length signature ≡ 4 → length (extensionHead signature size) ≡ 8
-unfolding extensionHead
-length-head signature size l = length-append signature (bytesOf 4 size) ∙ omega (arith, length-bytes 4 size)
 
 module _ (p signature : List ℕ) (size : ℕ) (rest : List ℕ) (four : length signature ≡ 4) where
   size-here : size < 2 ^ 32 → beAt 4 (p ++ (extensionHead signature size ++ rest)) (length p + 4) ≡ size
@@ -280,7 +276,7 @@ module _ (rs ps ns nm : List ℕ) (o : Options) where
 
   module _ (few : recordsIn rs ≤ most) (short : length (bodyBytes 20 64 rs ps ns nm o) ≤ most) where
     offset-is : offsetOf 20 rs ps ≡ length before-extensions
-    offset-is = omega (arith, length-append (headerOf (versionOf rs) (count rs ps ns nm o)) (tableBytes 20 rs ps), header-length (header-here rs ps ns nm o few short))
+    offset-is = omega (arith, length-append (headerOf (versionOf rs) (count rs ps ns nm o)) (tableBytes 20 rs ps), length-header (versionOf rs) (count rs ps ns nm o))
 
     offset-small : length before-extensions ≤ most
     unfolding bodyBytes bodyOf frontOf

@@ -6,16 +6,14 @@ use mathlib.Core.Bool.{Bool, true, false}
 use mathlib.Core.List.{List, [], _∷_, _++_, append-assoc}
 use native.Mathlib.Omega.{arith}
 use lib.ListN.{length, length-append}
-use borrow.Author.Tests.{eqb-true}
-use Rattle.node.specs.Head.{minusOne}
 use Rattle.node.specs.Store.{nodesIn, countAt, subtreesAt, parentAt, nameAt}
 use Rattle.tree_write.specs.Tree.{idBytes, headBytes, each, nodeBytes}
-use Rattle.tree_write.specs.Proper.{parentFits, isProper}
+use Rattle.tree_write.specs.Table.{Proper}
 use Rattle.tree_write.specs.Kids.{Mem, here, there}
 use Rattle.grammar.specs.Number.{Count}
 use Rattle.grammar.specs.Tree.{Tree, Subtrees, nodes}
 use Rattle.claims_tree.specs.Rendering.{howMany, nodeBytes as rowBytes, nodesBytes, subtreesBytes, treeBytes}
-use Rattle.claims_write.specs.Tree.{countMeant, kidsOf, kids-are, length-kids, Level, root, below, level-within, some-node, good-node, subtreesOf, treeAt}
+use Rattle.claims_write.specs.Tree.{countMeant, kidsOf, kids-are, length-kids, Level, root, below, level-within, subtreesOf, treeAt}
 use Rattle.claims_write.specs.Count.{walk, nodes-walked, walk-length}
 
 -- ---- THE CLAIM'S WORDS
@@ -111,16 +109,16 @@ rows-each n ns nm d i t b (x ∷ l) child count ih me place c =
     subst (λ (m : ℕ). Rows n ns nm (me + length w) (length rest) (subtreesBytes i (me + m) (subtreesOf t b (place + length (b x)) l))) (sym (count place x)) r₂ in
     subst (λ (k : ℕ). Rows n ns nm me k (nodesBytes i me (t place x) ++ subtreesBytes i (me + nodes (t place x)) (subtreesOf t b (place + length (b x)) l))) (sym (length-append w rest)) (rows-append r₁ r₃)
 
-module _ (n limit : ℕ) (ns nm : List ℕ) (proper : isProper limit ns nm ≡ true) where
+module _ (n limit : ℕ) (ns nm : List ℕ) (proper : Proper limit ns nm) where
   rows-of : (d k i place : ℕ) → i < nodesIn ns → Level ns k i → k + d ≡ limit + 1 → Consecutive (walk ns nm d i) i → Rows n ns nm i (length (walk ns nm d i)) (nodesBytes (parentAt ns i) i (treeAt n ns nm d place i))
   unfolding walk treeAt countUp
-  rows-of zero k i place h l e c = absurd (omega (arith, level-within l limit (good-node limit ns nm proper i h .climb)))
+  rows-of zero k i place h l e c = absurd (omega (arith, level-within l limit (proper .depth i h)))
   rows-of (suc d) k i place h l e c =
       let start : ℕ = place + length (headBytes n ns nm i) in
       let t : ℕ → ℕ → Tree = treeAt n ns nm d in
       let f : ℕ → List ℕ = nodeBytes n ns nm d in
       let ts : Subtrees = subtreesOf t f start (kidsOf ns nm i) in
-      let many : howMany ts ≡ subtreesAt ns i = how-many t f (kidsOf ns nm i) start ∙ length-kids ns nm i ∙ sym (good-node limit ns nm proper i h .subtrees) in
+      let many : howMany ts ≡ subtreesAt ns i = how-many t f (kidsOf ns nm i) start ∙ length-kids ns nm i ∙ sym (proper .subtrees i h) in
       let rest : List ℕ = each (walk ns nm d) (kidsOf ns nm i) in
       let c₀ : i ∷ rest ≡ i ∷ countUp (i + 1) (length rest) = c .is in
       let c₁ : rest ≡ countUp (i + 1) (length rest) = cc in
@@ -129,15 +127,11 @@ module _ (n limit : ℕ) (ns nm : List ℕ) (proper : isProper limit ns nm ≡ t
       (λ p x m q. let (a, b, r) = kids-are ns nm i x m in rows-of d (suc k) x p b (below a r l) (omega arith) q) (i + 1) start (record { is = c₁ }) in
       subst (λ (m : ℕ). Rows n ns nm i (suc (length rest)) (rowBytes place (nameAt nm ns i) (countMeant (countAt ns i)) m (parentAt ns i) (idBytes n ns i) ++ subtreesBytes i (i + 1) ts)) (sym many) (row place below-it)
 
-  no-parent : parentAt ns 0 ≡ minusOne
-  unfolding parentFits
-  no-parent = eqb-true (parentAt ns 0) minusOne (good-node limit ns nm proper 0 (some-node limit ns nm proper) .parent)
-
   -- THE SAME LIST
   pub same-list : InFileOrder limit ns nm → (place : ℕ) → Rows n ns nm 0 (nodesIn ns) (treeBytes (treeAt n ns nm limit place 0))
   same-list order place =
       let w : length (walk ns nm limit 0) ≡ nodesIn ns = walk-length limit ns nm proper in
       let c : Consecutive (walk ns nm limit 0) 0 = record { is = order ∙ ap (λ (k : ℕ). countUp 0 k) (sym w) } in
-      let r = rows-of limit 1 0 place (some-node limit ns nm proper) root (omega arith) c in
+      let r = rows-of limit 1 0 place (proper .some) root (omega arith) c in
       subst (λ (k : ℕ). Rows n ns nm 0 k (treeBytes (treeAt n ns nm limit place 0))) w
-      (subst (λ (p : ℕ). Rows n ns nm 0 (length (walk ns nm limit 0)) (nodesBytes p 0 (treeAt n ns nm limit place 0))) no-parent r)
+      (subst (λ (p : ℕ). Rows n ns nm 0 (length (walk ns nm limit 0)) (nodesBytes p 0 (treeAt n ns nm limit place 0))) (proper .root) r)

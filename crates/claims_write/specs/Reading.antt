@@ -22,7 +22,6 @@ use Rattle.grammar.specs.Extension.{Ext, TREE, Extensions, LastSigned}
 use Rattle.grammar.specs.Tree.{Tree, nodes, depth, Node}
 use Rattle.grammar.specs.File.{Index, headerLength, File, versionOf, countOf, space}
 use Rattle.grammar.specs.Space.{Spells, spells, spelled-in-space, spelled-has-good-header}
-use Rattle.grammar.specs.DecideFile.{header-length}
 use Rattle.grammar.specs.DecideExtension.{none-not-last, last-unique}
 use Rattle.grammar.specs.Unique.{entries-unique, extensions-unique}
 use Rattle.file.specs.Read.{Outcome, readFile}
@@ -39,9 +38,10 @@ use Rattle.write.specs.declared.Options.{Options}
 use Rattle.write.specs.declared.Answer.the-variants.{Done}
 use Rattle.write.specs.Entries.{isGone, tableBytes}
 use Rattle.write.specs.File.{headerOf, trailerOf, fileOf, writesTree, bodyBytes, fileBytes, most, writeAll, versionOf as versionWritten}
+use Rattle.write.specs.Parts.{length-header, length-trailer}
 use Rattle.claims_write.specs.Meaning.{statOf, writtenFlags, meaningOf, keptFrom, keptOf, meaningsOf, PathEnds, PathsEnd}
 use Rattle.claims_write.specs.Extensions.{extensionsMeant, last-tree, no-tree}
-use Rattle.claims_write.specs.Spelled.{treeBody, treeMeant, indexOf, written, done-says, length-trailer, has, eoieBody, extensionsHere, before, behindEntries, written-parts, count, header-here, extensions-here, entries-here, file-spelled, fileIn, file-is}
+use Rattle.claims_write.specs.Spelled.{treeBody, treeMeant, indexOf, written, done-says, has, eoieBody, extensionsHere, before, behindEntries, written-parts, count, extensions-here, entries-here, file-spelled, fileIn, file-is}
 
 -- ---- room: what every entry before the last needs, all of them have
 
@@ -122,7 +122,7 @@ module _ (rs ps ns nm : List ℕ) (o : Options) where
     joins-w =
         ap (λ (l : List ℕ). space 20 l) (written-parts rs ps ns nm o)
         ∙ space-of (headerOf (versionWritten rs) (count rs ps ns nm o)) (tableBytes 20 rs ps) (behindEntries rs ps ns nm o) (trailerOf 20 sha1 (o .unhashed) (before rs ps ns nm o)) 20
-        (header-length (header-here rs ps ns nm o few short)) (length-trailer (o .unhashed) (before rs ps ns nm o))
+        (length-header (versionWritten rs) (count rs ps ns nm o)) (length-trailer (o .unhashed) (before rs ps ns nm o))
 
     entries-w : Entries 20 (versionOf w) start (countOf w) (tableBytes 20 rs ps) ms
     entries-w =

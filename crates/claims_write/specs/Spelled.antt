@@ -29,6 +29,7 @@ use Rattle.write.specs.declared.Answer.the-variants.{Done, PathOutside, NotProp
 use Rattle.write.specs.Entries.{isGone, First, found, nowhere, firstFault, onFirst, keptOf, countOf, anyExtended, entriesBytes, tableBytes}
 use Rattle.write.specs.File.{headerOf, versionOf, treeHead, sparsePart, contents, eoiePart, trailerOf, frontOf, extensionsOf, bodyOf, offsetOf, closedOf, fileOf, writesTree, hasEoie, treeOf, treeFits, bodyBytes, fileBytes, Outcome, outcome, most, writeFile, writeAll}
 use Rattle.write.specs.Hash.{length-sha1}
+use Rattle.write.specs.Parts.{closed-parts, length-trailer}
 use Rattle.claims_write.specs.Meaning.{meaningsOf, PathsEnd}
 use Rattle.claims_write.specs.Entries.{big, entries-spelled}
 use Rattle.claims_write.specs.Extensions.{extensionsMeant, extensions-spelled, marks-sdir, last-tree, no-tree as no-TREE}
@@ -130,11 +131,6 @@ version-small false = lit< tt
 header-spelled : (version count : ℕ) → version < 256 ^ 4 → Supported version → count < 256 ^ 4 → Header (headerOf version count) version count
 unfolding headerOf
 header-spelled version count h s k = header (big 4 version h) s (big 4 count k)
-
-pub length-trailer : (skips : Bool) (before : List ℕ) → length (trailerOf 20 sha1 skips before) ≡ 20
-unfolding trailerOf
-length-trailer true before = refl
-length-trailer false before = length-sha1 before
 
 module _ (rs ps ns nm : List ℕ) (o : Options) where
   abbrev pub records : ℕ

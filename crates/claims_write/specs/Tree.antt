@@ -24,7 +24,8 @@ use Rattle.siblings.specs.Siblings.{isChild, siblingsDiffer}
 use Rattle.siblings.specs.InOrder.{Distinct as DistinctAt, differ-distinct}
 use Rattle.tree_write.specs.Order.{before, false-true, before-not, before-names}
 use Rattle.tree_write.specs.Tree.{after, countBytes, frontBytes, numberBytes, idBytes, headBytes, kids, each, nodeBytes}
-use Rattle.tree_write.specs.Proper.{parentFits, countFits, isNever, holdsNone, nameFits, climbs, nodeFits, childCount, kidsFit, allIn, nodesFit, isProper}
+use Rattle.tree_write.specs.Proper.{isNever, holdsNone, climbs, childCount}
+use Rattle.tree_write.specs.Table.{Proper}
 use Rattle.tree_write.specs.Kids.{Mem, here, there, Rising, done, more, top, tally-all, cand, goes}
 use Rattle.grammar.specs.Number.{Digit, Digits, last-digit, digit, Unsigned, Count, covers, invalid, Signed, minus}
 use Rattle.grammar.specs.Number.Signed.{plain as no-sign}
@@ -57,51 +58,6 @@ pub digits-spelled : (x : ℕ) → Digits 10 0 (digitsOf 10 x) x
 unfolding digitsOf
 digits-spelled x = digits-by (suc x) x (omega arith)
 
--- ---- what a proper table says
-
-all-in : (p : ℕ → Bool) (k i : ℕ) → allIn p k i ≡ true → (j : ℕ) → i ≤ j → j < i + k → p j ≡ true
-unfolding allIn
-all-in p zero i e j h l = absurd (omega arith)
-all-in p (suc k) i e j h l = by (p i) refl e (λ q a. all-in p k (i + 1) q j a (omega arith)) (lt-or-ge i j)
-  where
-    by : (t : Bool) → p i ≡ t → pick t (allIn p k (i + 1)) false ≡ true → (allIn p k (i + 1) ≡ true → i + 1 ≤ j → p j ≡ true) → (i < j) ⊎ (j ≤ i) → p j ≡ true
-    by false q e ih x = absurd (false-true e)
-    by true q e ih (inl a) = ih e (omega arith)
-    by true q e ih (inr a) = let z : j ≡ i = omega arith in ap p z ∙ q
-
--- both of two tests
-both : (a : Bool) {b : Bool} → pick a b false ≡ true → (a ≡ true) × (b ≡ true)
-both true e = (refl, e)
-both false e = absurd (false-true e)
-
--- what node i alone says
-pub record GoodNode (limit : ℕ) (ns nm : List ℕ) (i : ℕ) : Type 0 where
-  pub parent : parentFits ns i ≡ true
-  pub count : countFits ns i ≡ true
-  pub name : holdsNone (nameAt nm ns i) ≡ true
-  pub climb : climbs ns limit i ≡ true
-  pub subtrees : subtreesAt ns i ≡ childCount ns i (nodesIn ns - 1) 1
-  pub differ : siblingsDiffer nm ns i 1 (nodesIn ns) ≡ true
-
-module _ (limit : ℕ) (ns nm : List ℕ) (proper : isProper limit ns nm ≡ true) where
-  pub some-node : 0 < nodesIn ns
-  unfolding isProper
-  some-node = ltb-true 0 (nodesIn ns) (both (ltb 0 (nodesIn ns)) proper .0)
-
-  pub good-node : (i : ℕ) → i < nodesIn ns → GoodNode limit ns nm i
-  unfolding isProper nodeFits nameFits kidsFit
-  good-node i h =
-      let (a, b) = both (ltb 0 (nodesIn ns)) proper in
-      let (c, d) = both (nodesFit limit ns nm) b in
-      let e = all-in (nodeFits limit ns nm) (nodesIn ns) 0 c i (omega arith) (omega arith) in
-      let f = all-in (kidsFit ns nm) (nodesIn ns) 0 d i (omega arith) (omega arith) in
-      let (e₁, e₂) = both (parentFits ns i) e in
-      let (e₃, e₄) = both (countFits ns i) e₂ in
-      let (e₅, e₆) = both (nameFits ns nm i) e₄ in
-      let (e₇, e₈) = both (nameInside nm ns i) e₅ in
-      let (f₁, f₂) = both (eqb (subtreesAt ns i) (childCount ns i (nodesIn ns - 1) 1)) f in
-      record { parent = e₁; count = e₃; name = e₈; climb = e₆; subtrees = eqb-true (subtreesAt ns i) (childCount ns i (nodesIn ns - 1) 1) f₁; differ = f₂ }
-
 -- ---- the head
 
 nul-never : (f : ℕ) (l : List ℕ) (i : ℕ) → length l ≤ f → isNever (nulIn f l i) ≡ true → NoNul l
@@ -122,13 +78,13 @@ no-nul name e = nul-never (length name - 0) name 0 (omega arith) e
 abbrev pub countMeant : ℕ → Count
 countMeant v = pick (eqb v minusOne) invalid (covers v)
 
-count-spelled : (ns : List ℕ) (i : ℕ) → countFits ns i ≡ true → Signed (countBytes (countAt ns i)) (countMeant (countAt ns i))
-unfolding countFits countBytes
-count-spelled ns i e = by (eqb (countAt ns i) minusOne) e
+count-spelled : (v : ℕ) → (v ≡ minusOne) ⊎ (v < countHalf) → Signed (countBytes v) (countMeant v)
+unfolding countBytes
+count-spelled v fits = by (same? v minusOne)
   where
-    by : (t : Bool) → pick t true (ltb (countAt ns i) countHalf) ≡ true → Signed (pick t (45 ∷ 49 ∷ []) (digitsOf 10 (countAt ns i))) (pick t invalid (covers (countAt ns i)))
-    by true e = minus {b = 49 ∷ []} {v = 1} (last-digit {c = 49} (record { least = lit≤ tt; below = lit< tt })) (lit< tt) (lit≤ tt)
-    by false e = no-sign (digits-spelled (countAt ns i)) (ltb-true (countAt ns i) countHalf e)
+    by : {t : Bool} → Same v minusOne t → Signed (pick t (45 ∷ 49 ∷ []) (digitsOf 10 v)) (pick t invalid (covers v))
+    by (same e) = minus {b = 49 ∷ []} {v = 1} (last-digit {c = 49} (record { least = lit≤ tt; below = lit< tt })) (lit< tt) (lit≤ tt)
+    by (differs d) = no-sign (digits-spelled v) (⊎-elim (λ e. absurd (d e)) (λ h. h) fits)
 
 id-spelled : (n : ℕ) (ns : List ℕ) (i : ℕ) → n ≤ 32 → i < nodesIn ns → Id n (countMeant (countAt ns i)) (idBytes n ns i)
 unfolding idBytes idAt
@@ -150,9 +106,9 @@ child-count-small ns p (suc k) j = by (isChild ns p j) (child-count-small ns p k
     by true h = omega arith
     by false h = omega arith
 
-head-spelled : (n limit : ℕ) (ns nm : List ℕ) (i : ℕ) → n ≤ 32 → length ns < 2 ^ 64 → i < nodesIn ns → GoodNode limit ns nm i → NodeHead n (headBytes n ns nm i) (headMeant n ns nm i)
+head-spelled : (n limit : ℕ) (ns nm : List ℕ) (i : ℕ) → n ≤ 32 → length ns < 2 ^ 64 → i < nodesIn ns → Proper limit ns nm → NodeHead n (headBytes n ns nm i) (headMeant n ns nm i)
 unfolding headBytes frontBytes numberBytes
-head-spelled n limit ns nm i small few h g =
+head-spelled n limit ns nm i small few h proper =
     let name : List ℕ = nameAt nm ns i in
     let c : List ℕ = countBytes (countAt ns i) in
     let k : List ℕ = digitsOf 10 (subtreesAt ns i) in
@@ -162,9 +118,9 @@ head-spelled n limit ns nm i small few h g =
     ∙ append-assoc (name ++ (0 ∷ [])) c ((((32 ∷ []) ++ k) ++ (10 ∷ [])) ++ id)
     ∙ append-assoc name (0 ∷ []) (c ++ ((((32 ∷ []) ++ k) ++ (10 ∷ [])) ++ id))
     ∙ ap (λ (l : List ℕ). name ++ (0 ∷ (c ++ (32 ∷ l)))) (append-assoc k (10 ∷ []) id) in
-    let fits : subtreesAt ns i < 2 ^ 64 = omega (arith, g .subtrees, child-count-small ns i (nodesIn ns - 1) 1) in
+    let fits : subtreesAt ns i < 2 ^ 64 = omega (arith, proper .subtrees i h, child-count-small ns i (nodesIn ns - 1) 1) in
     subst (λ (b : List ℕ). NodeHead n b (headMeant n ns nm i)) (sym e)
-    (node-head (no-nul name (g .name)) (count-spelled ns i (g .count)) (record { digits = digits-spelled (subtreesAt ns i); fits = fits }) (id-spelled n ns i small h))
+    (node-head (no-nul name (proper .plain i h)) (count-spelled (countAt ns i) (proper .counts i h)) (record { digits = digits-spelled (subtreesAt ns i); fits = fits }) (id-spelled n ns i small h))
 
 -- ---- how many children there are
 
@@ -361,20 +317,19 @@ rising-names ns nm (more r done) h = one-name
 rising-names ns nm (more {x = x} r (more {x = y} q rest)) h =
     then-name (before-names ns nm x y (r y here) (h x y here (there here))) (rising-names ns nm (more q rest) (λ a b m k e. h a b (there m) (there k) e))
 
-module _ (n limit : ℕ) (ns nm : List ℕ) (small : n ≤ 32) (few : length ns < 2 ^ 64) (proper : isProper limit ns nm ≡ true) where
+module _ (n limit : ℕ) (ns nm : List ℕ) (small : n ≤ 32) (few : length ns < 2 ^ 64) (proper : Proper limit ns nm) where
   same-name : (i : ℕ) → i < nodesIn ns → (x y : ℕ) → Mem x (kidsOf ns nm i) → Mem y (kidsOf ns nm i) → nameAt nm ns x ≡ nameAt nm ns y → x ≡ y
   same-name i h x y a b e =
-      let d : DistinctAt nm ns i 1 (nodesIn ns) = differ-distinct nm ns i 1 (nodesIn ns) (good-node limit ns nm proper i h .differ) in
+      let d : DistinctAt nm ns i 1 (nodesIn ns) = differ-distinct nm ns i 1 (nodesIn ns) (proper .distinct i h) in
       let (x₁, x₂, x₃) = kids-are ns nm i x a in
       let (y₁, y₂, y₃) = kids-are ns nm i y b in
       ⊎-elim (λ l. absurd (d y x (omega arith) l y₂ y₃ x₃ (sym e))) (⊎-elim (λ l. l) (λ l. absurd (d x y (omega arith) l x₂ x₃ y₃ e))) (tri x y)
 
   pub node-spelled : (d k i place : ℕ) → i < nodesIn ns → Level ns k i → k + d ≡ limit + 1 → Node n place (nodeBytes n ns nm d i) (treeAt n ns nm d place i)
   unfolding nodeBytes treeAt
-  node-spelled zero k i place h l e = absurd (omega (arith, level-within l limit (good-node limit ns nm proper i h .climb)))
+  node-spelled zero k i place h l e = absurd (omega (arith, level-within l limit (proper .depth i h)))
   node-spelled (suc d) k i place h l e =
-      let g = good-node limit ns nm proper i h in
-      let count : length (kidsOf ns nm i) ≡ subtreesAt ns i = length-kids ns nm i ∙ sym (g .subtrees) in
+      let count : length (kidsOf ns nm i) ≡ subtreesAt ns i = length-kids ns nm i ∙ sym (proper .subtrees i h) in
       let inner : (p j : ℕ) → Mem j (kidsOf ns nm i) → Node n p (nodeBytes n ns nm d j) (treeAt n ns nm d p j) =
       λ p j m. let (a, b, c) = kids-are ns nm i j m in node-spelled d (suc k) j p b (below a c l) (omega arith) in
       let start : ℕ = place + length (headBytes n ns nm i) in
@@ -384,29 +339,29 @@ module _ (n limit : ℕ) (ns nm : List ℕ) (small : n ≤ 32) (few : length ns 
       let apart : Distinct (names subtrees) =
       subst Distinct (sym (names-of (nameAt nm ns) (treeAt n ns nm d) (nodeBytes n ns nm d) (kidsOf ns nm i) start (name-at n ns nm d)))
       (distinct-names (nameAt nm ns) (λ x y. before ns nm x y ≡ true) (before-not ns nm) (kids-rise ns nm i) (same-name i h)) in
-      node {head = headMeant n ns nm i} (head-spelled n limit ns nm i small few h g) many apart refl
+      node {head = headMeant n ns nm i} (head-spelled n limit ns nm i small few h proper) many apart refl
 
   -- THE TREE: what is written of a proper table is its tree
   pub tree-spelled : (place : ℕ) → Node n place (nodeBytes n ns nm limit 0) (treeAt n ns nm limit place 0)
-  tree-spelled place = node-spelled limit 1 0 place (some-node limit ns nm proper) root (omega arith)
+  tree-spelled place = node-spelled limit 1 0 place (proper .some) root (omega arith)
 
   -- ---- it is no deeper than the limit
 
   depth-small : (d k i place : ℕ) → i < nodesIn ns → Level ns k i → k + d ≡ limit + 1 → depth (treeAt n ns nm d place i) ≤ d
   unfolding treeAt
-  depth-small zero k i place h l e = absurd (omega (arith, level-within l limit (good-node limit ns nm proper i h .climb)))
+  depth-small zero k i place h l e = absurd (omega (arith, level-within l limit (proper .depth i h)))
   depth-small (suc d) k i place h l e =
       let inner : (p j : ℕ) → Mem j (kidsOf ns nm i) → depth (treeAt n ns nm d p j) ≤ d = λ p j m. let (a, b, c) = kids-are ns nm i j m in depth-small d (suc k) j p b (below a c l) (omega arith) in
       omega (arith, deepest-small (treeAt n ns nm d) (nodeBytes n ns nm d) (kidsOf ns nm i) (place + length (headBytes n ns nm i)) d inner)
 
   pub tree-shallow : (place : ℕ) → depth (treeAt n ns nm limit place 0) ≤ limit
-  tree-shallow place = depth-small limit 1 0 place (some-node limit ns nm proper) root (omega arith)
+  tree-shallow place = depth-small limit 1 0 place (proper .some) root (omega arith)
 
   -- ---- siblings stand in byte order of name
 
   sorted-at : (d k i place : ℕ) → i < nodesIn ns → Level ns k i → k + d ≡ limit + 1 → Sorted (treeAt n ns nm d place i)
   unfolding treeAt
-  sorted-at zero k i place h l e = absurd (omega (arith, level-within l limit (good-node limit ns nm proper i h .climb)))
+  sorted-at zero k i place h l e = absurd (omega (arith, level-within l limit (proper .depth i h)))
   sorted-at (suc d) k i place h l e =
       let inner : (p j : ℕ) → Mem j (kidsOf ns nm i) → Sorted (treeAt n ns nm d p j) = λ p j m. let (a, b, c) = kids-are ns nm i j m in sorted-at d (suc k) j p b (below a c l) (omega arith) in
       let start : ℕ = place + length (headBytes n ns nm i) in
@@ -416,4 +371,4 @@ module _ (n limit : ℕ) (ns nm : List ℕ) (small : n ≤ 32) (few : length ns 
       (all-sorted (treeAt n ns nm d) (nodeBytes n ns nm d) (kidsOf ns nm i) start inner)
 
   pub tree-sorted : (place : ℕ) → Sorted (treeAt n ns nm limit place 0)
-  tree-sorted place = sorted-at limit 1 0 place (some-node limit ns nm proper) root (omega arith)
+  tree-sorted place = sorted-at limit 1 0 place (proper .some) root (omega arith)

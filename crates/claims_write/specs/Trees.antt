@@ -17,6 +17,7 @@ use Rattle.claims_tree.specs.Rendering.{treeBytes}
 use Rattle.claims_tree.specs.Said.{lent, KeepsWithinDepth, HasRoom}
 use Rattle.node.specs.Store.{nodesIn}
 use Rattle.tree_write.specs.Proper.{isProper}
+use Rattle.tree_write.specs.Table.{Proper, proper-exactly}
 use Rattle.write.specs.declared.Options.{Options}
 use Rattle.write.specs.declared.Answer.the-variants.{Done}
 use Rattle.write.specs.File.{writesTree, treeFits, writeAll}
@@ -30,9 +31,10 @@ abbrev pub treeWritten : List ℕ → List ℕ → List ℕ → List ℕ → Tre
 treeWritten rs ps ns nm = treeAt 20 ns nm 64 (treePlace rs ps) 0
 
 module _ (rs ps ns nm : List ℕ) (o : Options) (out : List ℕ) (version size : ℕ) (done : writeAll 20 sha1 64 rs ps ns nm o out .answer ≡ Done version size) (few : length ns < 2 ^ 64) (asked : writesTree o ≡ true) where
-  proper : isProper 64 ns nm ≡ true
+  -- a table that is written is proper
+  pub proper : Proper 64 ns nm
   unfolding treeFits
-  proper = let d = done-says rs ps ns nm o out version size done in sym (ap (λ (t : Bool). pick t (isProper 64 ns nm) true) asked) ∙ d .proper
+  proper = let d = done-says rs ps ns nm o out version size done in proper-exactly 64 ns nm .0 (sym (ap (λ (t : Bool). pick t (isProper 64 ns nm) true) asked) ∙ d .proper)
 
   -- TREE's body is the tree, which the grammar spells
   pub written-tree-is-spelled : Node 20 (treePlace rs ps) (treeBody ns nm) (treeWritten rs ps ns nm)
