@@ -19,7 +19,7 @@ use Rattle.grammar.specs.DecideTree.{readTree}
 use Rattle.grammar.specs.File.{Index, countOf}
 use Rattle.file.specs.Read.{Outcome, readFile}
 use Rattle.file.specs.declared.Answer.the-variants.{Read}
-use Rattle.claims_entries.specs.Rendering.{recordsBytes, pathsBytes}
+use Rattle.claims_entries.specs.Rendering.{pathsBytes}
 use Rattle.claims_entries.specs.Said.{filled, Fits}
 use Rattle.claims_entries.specs.Fields.{Shows}
 use Rattle.claims.specs.Premises.{Slices}

@@ -1,22 +1,22 @@
 -- The tree written of a proper table has every node of it, and each once: as many nodes as the table. Over the length of an id and the depth. Assumes nothing.
-use Prim.Native.Nat.{ℕ, zero, suc, _+_, _-_, _*_, _/_, _^_, _≤_, _<_}
+use Prim.Native.Nat.{ℕ, zero, suc, _+_, _-_, _≤_, _<_}
 use mathlib.Core.Path.{_≡_, refl, sym, ap, _∙_, subst}
-use mathlib.Core.Bool.{Bool, true, false}
+use mathlib.Core.Bool.{Bool, true}
 use mathlib.Core.List.{List, [], _∷_, _++_}
 use mathlib.Core.Logic.{_⊎_, inl, inr, ⊎-elim}
 use native.Mathlib.Omega.{arith}
-use lib.Dec.{ltb, leb, eqb}
+use lib.Dec.{leb, eqb}
 use lib.ListN.{length, length-append}
-use borrow.Author.Tests.{ltb-true, eqb-true, eqb-false, eq-eqb, ne-eqb, le-leb, lt-leb}
+use borrow.Author.Tests.{eq-eqb, ne-eqb, le-leb, lt-leb}
 use Rattle.laws.specs.Pick.{pick}
-use Rattle.laws.specs.Tests.{lt-or-ge, tri, Same, same, differs, same?}
+use Rattle.laws.specs.Tests.{lt-or-ge, Same, same, differs, same?}
 use Rattle.node.specs.Store.{nodesIn, parentAt}
 use Rattle.tree_write.specs.Order.{before, false-true, before-not}
 use Rattle.tree_write.specs.Tree.{headBytes, each, nodeBytes}
 use Rattle.tree_write.specs.Proper.{climbs}
 use Rattle.tree_write.specs.Table.{Proper}
 use Rattle.tree_write.specs.Kids.{Mem, here, there, not-mem}
-use Rattle.grammar.specs.Tree.{Tree, Subtrees, nodes, nodesOf}
+use Rattle.grammar.specs.Tree.{Tree, nodes, nodesOf}
 use Rattle.claims_write.specs.Tree.{total, hits, total-same, total-hits, no-hits, one-hit, kidsOf, kids-are, kids-all, kids-rise, Level, root, below, level-within, subtreesOf, treeAt}
 
 -- ---- the nodes of the tree, in the order in which they are written

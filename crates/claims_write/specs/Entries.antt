@@ -5,22 +5,21 @@ use mathlib.Core.Path.{_≡_, refl, sym, ap, _∙_, subst}
 use mathlib.Core.Bool.{Bool, true, false}
 use mathlib.Core.List.{List, [], _∷_, _++_, map, append-assoc, append-nil}
 use native.Mathlib.Omega.{arith}
-use lib.Dec.{ltb}
-use lib.ListN.{length, take, drop, replicate, length-append, length-replicate}
+use lib.ListN.{length, replicate, length-replicate}
 use lib.Seq.{take-all}
 use borrow.Author.Tests.{lt-ltb, le-ltb}
 use Rattle.laws.specs.Pick.{pick}
 use Rattle.laws.specs.Tests.{Less, less, not-less, less?, Same, same, differs, same?}
-use Rattle.laws.specs.Times.{Times, done, more}
+use Rattle.laws.specs.Times.{done, more}
 use Rattle.wire.specs.BigEndian.{beAt, bytesOf, length-bytes, be-bytes}
-use Rattle.entry.specs.Flags.{bit, extended, toStorage, extendedToStorage, keepFlags}
+use Rattle.entry.specs.Flags.{toStorage, extendedToStorage, keepFlags}
 use Rattle.entry.specs.Record.{recordsIn, fieldAt, flagsAt, idAt, pathAt}
 use Rattle.entry.specs.Laws.{field-is, id-is}
 use Rattle.grammar.specs.Number.{bigEndian, BigEndian, big-endian}
-use Rattle.grammar.specs.Entry.{Stat, Meaning, meaning, keptMode, Fields, OnlyMarks, Flags, Padding, NoNul, Before, fullField, Name, counted, ended, Entry, entry, behind, Entries}
+use Rattle.grammar.specs.Entry.{keptMode, Fields, Flags, Before, fullField, Name, counted, ended, Entry, entry, behind, Entries}
 use Rattle.grammar.specs.Entry.Flags.{plain as plain-flags, extended as extended-flags}
 use Rattle.claims_entries.specs.Parts.{wordsAt, statAt, be-is, fields-says}
-use Rattle.write.specs.Entries.{isGone, stated, fixedOf, frontAt, flagBytes, padOf, entryOf, recordBytes, beforeAt, entriesBytes, keptOf, countOf}
+use Rattle.write.specs.Entries.{isGone, stated, fixedOf, frontAt, flagBytes, padOf, entryOf, recordBytes, entriesBytes, keptOf, countOf}
 use Rattle.write.specs.Size.{length-front, length-flags}
 use Rattle.claims_write.specs.Meaning.{statOf, writtenFlags, meaningOf, keptFrom, PathEnds, PathsEnd}
 

@@ -1,11 +1,11 @@
 -- EOIE AS IT IS WRITTEN IS FOUND by the EOIE reader, with the offset at which the extensions start (issue 7, 4). Assumes nothing.
-use Prim.Native.Nat.{ℕ, zero, suc, _+_, _-_, _*_, _^_, _≤_, _<_}
+use Prim.Native.Nat.{ℕ, suc, _+_, _^_, _≤_, _<_}
 use mathlib.Core.Path.{_≡_, refl, sym, ap, _∙_, subst}
 use mathlib.Core.Bool.{Bool, true, false}
 use mathlib.Core.List.{List, [], _∷_, _++_, append-assoc, append-nil, flatten}
 use native.Mathlib.Omega.{arith}
-use lib.Dec.{lit≤, lit<, ltb}
-use lib.ListN.{length, getD, take, drop, length-append}
+use lib.Dec.{lit<, ltb}
+use lib.ListN.{length, take, drop, length-append}
 use lib.Seq.{take-at, drop-at, drop-drop}
 use Rattle.laws.specs.Pick.{pick}
 use Rattle.wire.specs.BigEndian.{beAt, bytesOf, length-bytes, be-left, be-right, be-bytes}
@@ -15,18 +15,18 @@ use Rattle.entry.specs.Record.{recordsIn}
 use Rattle.extension.specs.Signatures as reader
 use Rattle.extension.specs.Iter.{Found, filled}
 use Rattle.extension.specs.EndOfIndexEntry.{headersOf, offsetIn}
-use Rattle.extension.specs.Theorems.{Fits, Stands, Chain, chain-filled, chain-more}
+use Rattle.extension.specs.Theorems.{Chain, chain-filled, chain-more}
 use Rattle.extension.specs.Telling.{beginning, Tells, tells-told}
 use Rattle.extension.specs.declared.end_of_index_entry.Told.the-variants.{Offset}
 use Rattle.grammar.specs.Extension.{Ext, ext, sdir, TREE}
 use Rattle.write.specs.declared.Options.{Options}
 use Rattle.write.specs.declared.Answer.the-variants.{Done}
-use Rattle.write.specs.Entries.{tableBytes, countOf}
+use Rattle.write.specs.Entries.{tableBytes}
 use Rattle.write.specs.File.{headerOf, extensionHead, treeHead, sparsePart, contents, eoiePart, trailerOf, frontOf, extensionsOf, bodyOf, offsetOf, closedOf, fileOf, writesTree, hasEoie, treeOf, bodyBytes, fileBytes, most, versionOf, writeAll}
 use Rattle.write.specs.Hash.{length-sha1}
 use Rattle.write.specs.Parts.{length-head, length-header, length-trailer}
-use Rattle.claims_write.specs.Extensions.{EOIE, extensionsMeant}
-use Rattle.claims_write.specs.Spelled.{treeBody, written, done-says, fileIn, file-is, tree-small, count, toc, before, has}
+use Rattle.claims_write.specs.Extensions.{EOIE}
+use Rattle.claims_write.specs.Spelled.{treeBody, written, done-says, fileIn, file-is, tree-small, count, before}
 
 -- ---- extensions one behind the other, and their signatures and sizes
 

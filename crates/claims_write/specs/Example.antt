@@ -1,8 +1,8 @@
 -- That the premises of demand 2 can be met: a table of two records, one of them marked REMOVE, and a tree of one node, written with TREE and `sdir`; and what the claims say of it.
 -- Assumes nothing.
-use Prim.Native.Nat.{ℕ, zero, suc, _<_}
+use Prim.Native.Nat.{ℕ, zero, suc}
 use mathlib.Core.Path.{_≡_, refl}
-use mathlib.Core.Bool.{Bool, true, false}
+use mathlib.Core.Bool.{true, false}
 use mathlib.Core.List.{List, [], _∷_, _++_}
 use native.Mathlib.Omega.{arith}
 use lib.Dec.{lit≤, lit<}
@@ -11,7 +11,7 @@ use Rattle.slices.specs.Bytes.{nulIn, nulAt}
 use Rattle.wire.specs.BigEndian.{beAt, bytesOf}
 use Rattle.wire.specs.Written.{digitsBy, digitsOf}
 use Rattle.sha1.specs.Sha1.{sha1}
-use Rattle.entry.specs.Record.{recordsIn, fieldAt, liesInside, pathAt}
+use Rattle.entry.specs.Record.{fieldAt, liesInside, pathAt}
 use Rattle.node.specs.Store.{wordAt, idAt, isPart, partOf, nameInside, nameAt}
 use Rattle.siblings.specs.Siblings.{anyIn, twin, repeats, siblingsDiffer}
 use Rattle.tree_write.specs.Tree.{countBytes, frontBytes, numberBytes, idBytes, headBytes, better, bestRun, nextKid, kids, each, nodeBytes}
@@ -23,9 +23,9 @@ use Rattle.file.specs.Read.{Outcome as ReadOutcome}
 use Rattle.claims.specs.Premises.{Slices}
 use Rattle.write.specs.declared.Options.{Options}
 use Rattle.write.specs.declared.Answer.the-variants.{Done}
-use Rattle.write.specs.Entries.{isGone, faultOf, stated, fixedOf, frontAt, flagBytes, entryOf, recordBytes, entriesBytes, keptOf, countOf, anyExtended, firstFault}
+use Rattle.write.specs.Entries.{faultOf, stated, fixedOf, frontAt, flagBytes, entryOf, recordBytes, entriesBytes, keptOf, countOf, anyExtended, firstFault}
 use Rattle.write.specs.File.{headerOf, extensionHead, treeHead, sparsePart, contents, eoiePart, trailerOf, frontOf, extensionsOf, bodyOf, closedOf, fileOf, writesTree, hasEoie, treeOf, treeFits, bodyBytes, fileBytes, Outcome, writeFile, writeAll}
-use Rattle.claims_write.specs.Meaning.{keptFrom, Writable, WritableTable, SameEntry}
+use Rattle.claims_write.specs.Meaning.{keptFrom, WritableTable, SameEntry}
 use Rattle.claims_write.specs.Claims.{Roomy, reading, bytes, written-reads-back, writable-ends}
 
 -- ---- the table

@@ -1,21 +1,18 @@
 -- What the writer writes behind the entries is spelled by the grammar as extensions: TREE, `sdir` and EOIE, those that are there, in this order. Assumes nothing.
-use Prim.Native.Nat.{ℕ, _+_, _^_, _≤_, _<_}
+use Prim.Native.Nat.{ℕ, _+_, _^_, _<_}
 use mathlib.Core.Path.{_≡_, refl, sym, ap, _∙_, subst}
 use mathlib.Core.Bool.{Bool, true, false}
 use mathlib.Core.List.{List, [], _∷_, _++_, append-assoc, append-nil}
-use mathlib.Core.Option.{Option, none, some}
 use native.Mathlib.Omega.{arith}
 use lib.Dec.{lit<}
 use lib.ListN.{length, getD, length-append}
 use Rattle.laws.specs.Pick.{pick}
 use Rattle.laws.specs.Fill.{Fill, done, more}
 use Rattle.wire.specs.BigEndian.{bytesOf, length-bytes}
-use Rattle.grammar.specs.Extension.{Ext, ext, Framed, framed, Mandatory, sdir, TREE, Allowed, optional, empty-sdir, Extension, Extensions, NoneSigned, none-left, another, LastSigned, last-signed, extensionHeader}
-use Rattle.grammar.specs.Tree.{Tree, Node}
-use Rattle.grammar.specs.DecideTree.{readTree, SaysTree, tree-says}
-use Rattle.grammar.specs.File.{Some, this, other, Tells, it-is, it-is-not, CacheTree, spelled, malformed, absent}
+use Rattle.grammar.specs.Extension.{Ext, ext, Framed, framed, Mandatory, sdir, TREE, optional, empty-sdir, Extension, Extensions, NoneSigned, none-left, another, LastSigned, last-signed}
+use Rattle.grammar.specs.File.{Some, this, other, Tells, it-is, it-is-not}
 use Rattle.claims_extension.specs.Said.{HasSdir}
-use Rattle.write.specs.File.{extensionHead, treeSignature, sparseSignature, eoieSignature, treeHead, sparsePart, eoiePart, extensionsOf}
+use Rattle.write.specs.File.{extensionHead, treeHead, sparsePart, eoiePart, extensionsOf}
 use Rattle.claims_write.specs.Entries.{big}
 
 -- ---- THE MEANING

@@ -1,17 +1,16 @@
 -- The records that are written, by their indices: exactly those that are not marked REMOVE, in the table's order; all of them where none is marked. Assumes nothing.
 use Prim.Native.Nat.{ℕ, zero, suc, _+_, _≤_, _<_}
-use mathlib.Core.Path.{_≡_, refl, sym, ap, _∙_, subst}
+use mathlib.Core.Path.{_≡_, refl, sym, ap, _∙_}
 use mathlib.Core.Bool.{Bool, true, false}
 use mathlib.Core.List.{List, [], _∷_, map}
 use mathlib.Core.Logic.{⊎-elim}
-use mathlib.Core.Option.{Option, none, some}
+use mathlib.Core.Option.{Option, some}
 use native.Mathlib.Omega.{arith}
 use lib.ListN.{length, getElem?}
 use Rattle.laws.specs.Pick.{pick}
 use Rattle.laws.specs.Tests.{lt-or-ge}
-use Rattle.entry.specs.Record.{recordsIn}
 use Rattle.write.specs.Entries.{isGone}
-use Rattle.claims_write.specs.Meaning.{keptFrom, keptOf, NoneRemoved}
+use Rattle.claims_write.specs.Meaning.{keptFrom}
 
 pub at-map : {A : Type 0} (f : ℕ → A) (l : List ℕ) (j i : ℕ) → getElem? l j ≡ some i → getElem? (map f l) j ≡ some (f i)
 at-map f [] j i e = let z : _≡_ {A = ℕ} 0 1 = cc in absurd (omega arith)

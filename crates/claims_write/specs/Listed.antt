@@ -1,8 +1,7 @@
 -- A proper node table whose nodes stand in the order in which they are written reads back as the same node list, name places aside (issue 7, 3). Over the length of an id and the
 -- depth. Assumes nothing.
-use Prim.Native.Nat.{ℕ, zero, suc, _+_, _-_, _≤_, _<_}
+use Prim.Native.Nat.{ℕ, zero, suc, _+_, _<_}
 use mathlib.Core.Path.{_≡_, refl, sym, ap, _∙_, subst}
-use mathlib.Core.Bool.{Bool, true, false}
 use mathlib.Core.List.{List, [], _∷_, _++_, append-assoc}
 use native.Mathlib.Omega.{arith}
 use lib.ListN.{length, length-append}
@@ -10,7 +9,6 @@ use Rattle.node.specs.Store.{nodesIn, countAt, subtreesAt, parentAt, nameAt}
 use Rattle.tree_write.specs.Tree.{idBytes, headBytes, each, nodeBytes}
 use Rattle.tree_write.specs.Table.{Proper}
 use Rattle.tree_write.specs.Kids.{Mem, here, there}
-use Rattle.grammar.specs.Number.{Count}
 use Rattle.grammar.specs.Tree.{Tree, Subtrees, nodes}
 use Rattle.claims_tree.specs.Rendering.{howMany, nodeBytes as rowBytes, nodesBytes, subtreesBytes, treeBytes}
 use Rattle.claims_write.specs.Tree.{countMeant, kidsOf, kids-are, length-kids, Level, root, below, level-within, subtreesOf, treeAt}

@@ -1,47 +1,40 @@
 -- The written file as the reader's claims want it: its header and trailer are good, it has room where the table has, and the reader's answer and stores are the rendering of the
 -- table's meaning. Assumes that the file is bytes and that no slice has 2^64 bytes or more, the premise `Slices`.
-use Prim.Native.Nat.{ℕ, zero, suc, _+_, _-_, _*_, _/_, _%_, _^_, _≤_, _<_}
+use Prim.Native.Nat.{ℕ, zero, suc, _+_, _-_, _≤_}
 use mathlib.Core.Path.{_≡_, refl, sym, ap, _∙_, subst}
 use mathlib.Core.Bool.{Bool, true, false}
-use mathlib.Core.List.{List, [], _∷_, _++_, map, append-assoc}
-use mathlib.Core.Option.{Option, none, some}
+use mathlib.Core.List.{List, [], _++_, append-assoc}
 use native.Mathlib.Omega.{arith}
 use lib.Dec.{lit≤}
-use lib.ListN.{length, getD, take, drop, replicate, getElem?, length-append, length-map, take-append-drop}
+use lib.ListN.{length, take, drop, replicate, length-append, length-map, take-append-drop}
 use lib.Seq.{take-at, drop-at}
 use Rattle.laws.specs.Pick.{pick}
 use Rattle.laws.specs.Read.{Begins}
-use Rattle.laws.specs.Tests.{Same, same, differs, same?}
 use Rattle.laws.specs.Times.{Times, done, more}
 use Rattle.sha1.specs.Sha1.{sha1}
-use Rattle.entry.specs.Flags.{bit, extended, stageRaw, keepFlags, toStorage}
-use Rattle.entry.specs.Record.{recordsIn, modeAt, flagsAt, stageAt, idAt, liesInside, pathAt}
-use Rattle.entry.specs.Stat.{statAt}
-use Rattle.grammar.specs.Entry.{Meaning, Before, keptMode, start, Entries}
+use Rattle.entry.specs.Record.{recordsIn}
+use Rattle.grammar.specs.Entry.{Meaning, start, Entries}
 use Rattle.grammar.specs.Extension.{Ext, TREE, Extensions, LastSigned}
-use Rattle.grammar.specs.Tree.{Tree, nodes, depth, Node}
 use Rattle.grammar.specs.File.{Index, headerLength, File, versionOf, countOf, space}
 use Rattle.grammar.specs.Space.{Spells, spells, spelled-in-space, spelled-has-good-header}
 use Rattle.grammar.specs.DecideExtension.{none-not-last, last-unique}
 use Rattle.grammar.specs.Unique.{entries-unique, extensions-unique}
-use Rattle.file.specs.Read.{Outcome, readFile}
-use Rattle.file.specs.declared.Answer.the-variants.{Read}
-use Rattle.claims_entries.specs.Rendering.{recordsBytes, pathsBytes, sparseBy, Bytes}
+use Rattle.file.specs.Read.{readFile}
+use Rattle.claims_entries.specs.Rendering.{recordsBytes, pathsBytes, Bytes}
 use Rattle.claims_entries.specs.Said.{filled, Fits, RoomFor}
 use Rattle.claims_entries.specs.Shown.{EachShown}
-use Rattle.claims_entries.specs.Fields.{Shows, bytes-left, bytes-right, spelled-each-fits, spelled-length, rendered-fields, paths-append}
+use Rattle.claims_entries.specs.Fields.{bytes-left, bytes-right, spelled-each-fits, spelled-length, rendered-fields, paths-append}
 use Rattle.claims_tree.specs.Said.{lent, KeepsWithinDepth, HasRoom}
-use Rattle.claims.specs.Premises.{Slices, content, trailer, GoodTrailer, zeros, hashed}
+use Rattle.claims.specs.Premises.{Slices, trailer, GoodTrailer, zeros, hashed}
 use Rattle.claims.specs.Said.{Opened}
-use Rattle.claims.specs.Claims.{LastTREE, TreeFits, hasTree, nodesOf, NodesAfter, Renders, stores-are-the-meaning}
+use Rattle.claims.specs.Claims.{LastTREE, TreeFits, Renders, stores-are-the-meaning}
 use Rattle.write.specs.declared.Options.{Options}
-use Rattle.write.specs.declared.Answer.the-variants.{Done}
-use Rattle.write.specs.Entries.{isGone, tableBytes}
-use Rattle.write.specs.File.{headerOf, trailerOf, fileOf, writesTree, bodyBytes, fileBytes, most, writeAll, versionOf as versionWritten}
+use Rattle.write.specs.Entries.{tableBytes}
+use Rattle.write.specs.File.{headerOf, trailerOf, fileOf, writesTree, bodyBytes, fileBytes, most, versionOf as versionWritten}
 use Rattle.write.specs.Parts.{length-header, length-trailer}
-use Rattle.claims_write.specs.Meaning.{statOf, writtenFlags, meaningOf, keptFrom, keptOf, meaningsOf, PathEnds, PathsEnd}
+use Rattle.claims_write.specs.Meaning.{meaningOf, keptOf, meaningsOf, PathsEnd}
 use Rattle.claims_write.specs.Extensions.{extensionsMeant, last-tree, no-tree}
-use Rattle.claims_write.specs.Spelled.{treeBody, treeMeant, indexOf, written, done-says, has, eoieBody, extensionsHere, before, behindEntries, written-parts, count, extensions-here, entries-here, file-spelled, fileIn, file-is}
+use Rattle.claims_write.specs.Spelled.{treeBody, indexOf, written, has, eoieBody, extensionsHere, before, behindEntries, written-parts, count, extensions-here, entries-here, file-spelled}
 
 -- ---- room: what every entry before the last needs, all of them have
 

@@ -1,35 +1,33 @@
 -- WHAT THE WRITER WRITES IS SPELLED BY THE GRAMMAR (issue 7, 4): the file that it answers `Done` for, and the index that it means. Over all tables and all that may be asked for.
 -- Assumes nothing.
-use Prim.Native.Nat.{ℕ, zero, suc, _+_, _-_, _*_, _/_, _^_, _≤_, _<_}
+use Prim.Native.Nat.{ℕ, zero, suc, _+_, _^_, _≤_, _<_}
 use mathlib.Core.Path.{_≡_, refl, sym, ap, _∙_, subst}
 use mathlib.Core.Bool.{Bool, true, false}
-use mathlib.Core.List.{List, [], _∷_, _++_, append-assoc, append-nil}
-use mathlib.Core.Option.{Option, none, some}
+use mathlib.Core.List.{List, [], _++_, append-assoc}
+use mathlib.Core.Option.{Option, none}
 use native.Mathlib.Omega.{arith}
-use lib.Dec.{ltb, lit≤, lit<}
-use lib.ListN.{length, take, drop, replicate, length-append, length-replicate}
-use lib.Seq.{take-at, drop-at}
+use lib.Dec.{lit≤, lit<}
+use lib.ListN.{length, take, drop, length-append}
+use lib.Seq.{take-at}
 use Rattle.laws.specs.Pick.{pick}
 use Rattle.laws.specs.Tests.{Less, less, not-less, less?}
-use Rattle.wire.specs.BigEndian.{bytesOf, length-bytes}
+use Rattle.wire.specs.BigEndian.{bytesOf}
 use Rattle.sha1.specs.Sha1.{sha1}
 use Rattle.entry.specs.Record.{recordsIn}
-use Rattle.grammar.specs.Entry.{Meaning, start, Entries}
-use Rattle.grammar.specs.Extension.{Ext, TREE, Extensions}
-use Rattle.grammar.specs.Tree.{Tree, Node}
+use Rattle.grammar.specs.Entry.{start, Entries}
+use Rattle.grammar.specs.Extension.{Ext, Extensions}
+use Rattle.grammar.specs.Tree.{Tree}
 use Rattle.grammar.specs.DecideTree.{readTree, SaysTree, is-tree, no-tree, tree-says}
-use Rattle.grammar.specs.File.{Index, DIRC, headerLength, Supported, Header, header, Sparse, Tells, CacheTree, spelled, malformed, absent, File, file}
+use Rattle.grammar.specs.File.{Index, headerLength, Supported, Header, header, CacheTree, spelled, malformed, absent, File, file}
 use Rattle.claims_entries.specs.Rendering.{sparseBy, sparse-tells}
 use Rattle.claims_extension.specs.Said.{either-marks}
-use Rattle.claims.specs.Premises.{content, trailer, GoodTrailer, zeros, hashed}
 use Rattle.tree_write.specs.Tree.{treeBytes}
 use Rattle.write.specs.declared.Options.{Options}
-use Rattle.write.specs.declared.Answer.{Answer}
 use Rattle.write.specs.declared.Answer.the-variants.{Done, PathOutside, NotProper, TooLarge, ShortOutput}
-use Rattle.write.specs.Entries.{isGone, First, found, nowhere, firstFault, onFirst, keptOf, countOf, anyExtended, entriesBytes, tableBytes}
+use Rattle.write.specs.Entries.{isGone, First, found, nowhere, firstFault, onFirst, keptOf, countOf, anyExtended, tableBytes}
 use Rattle.write.specs.File.{headerOf, versionOf, treeHead, sparsePart, contents, eoiePart, trailerOf, frontOf, extensionsOf, bodyOf, offsetOf, closedOf, fileOf, writesTree, hasEoie, treeOf, treeFits, bodyBytes, fileBytes, Outcome, outcome, most, writeFile, writeAll}
 use Rattle.write.specs.Hash.{length-sha1}
-use Rattle.write.specs.Parts.{closed-parts, length-trailer}
+use Rattle.write.specs.Parts.{length-trailer}
 use Rattle.claims_write.specs.Meaning.{meaningsOf, PathsEnd}
 use Rattle.claims_write.specs.Entries.{big, entries-spelled}
 use Rattle.claims_write.specs.Extensions.{extensionsMeant, extensions-spelled, marks-sdir, last-tree, no-tree as no-TREE}

@@ -1,37 +1,35 @@
 -- The tree that the writer writes of a proper node table is spelled by the grammar (issue 7, 3): each node with its name, its count and its id, and below it its children, all of
 -- them, in byte order of name. Over the length of an id and the depth. Assumes that the node table has fewer than 2^64 bytes, as every slice has.
-use Prim.Native.Nat.{ℕ, zero, suc, _+_, _-_, _*_, _/_, _%_, _^_, _≤_, _<_, max}
+use Prim.Native.Nat.{ℕ, zero, suc, _+_, _-_, _*_, _/_, _%_, _^_, _≤_, _<_}
 use mathlib.Core.Path.{_≡_, refl, sym, ap, _∙_, subst}
 use mathlib.Core.Bool.{Bool, true, false}
-use mathlib.Core.List.{List, [], _∷_, _++_, map, append-assoc, append-nil}
-use mathlib.Core.Logic.{_⊎_, inl, inr, ⊎-elim}
+use mathlib.Core.List.{List, [], _∷_, _++_, map, append-assoc}
+use mathlib.Core.Logic.{_⊎_, ⊎-elim}
 use native.Mathlib.Omega.{arith}
-use native.Mathlib.Nat.{div-lt-self}
 use lib.Dec.{ltb, eqb, lit≤, lit<}
-use lib.ListN.{length, take, drop, length-append}
-use borrow.Author.Tests.{lt-ltb, ltb-true, eqb-true, eqb-false, eq-eqb, ne-eqb}
+use lib.ListN.{length, take, drop}
+use borrow.Author.Tests.{lt-ltb, eq-eqb, ne-eqb}
 use Rattle.laws.specs.Pick.{pick}
 use Rattle.laws.specs.Lists.{length-part}
 use Rattle.laws.specs.Order.{Before}
-use Rattle.laws.specs.Tests.{lt-or-ge, tri, Less, less, not-less, less?, Same, same, differs, same?}
+use Rattle.laws.specs.Tests.{tri, Less, less, not-less, less?, Same, same, differs, same?}
 use Rattle.slices.specs.Bytes.{nulIn, nulAt}
-use Rattle.slices.specs.declared.Ends.{Ends}
-use Rattle.slices.specs.declared.Ends.the-variants.{With, Never}
+use Rattle.slices.specs.declared.Ends.the-variants.{With}
 use Rattle.wire.specs.Written.{digitsBy, digitsOf}
 use Rattle.node.specs.Head.{minusOne, countHalf}
-use Rattle.node.specs.Store.{nodesIn, countAt, subtreesAt, parentAt, idAt, nameInside, nameAt}
-use Rattle.siblings.specs.Siblings.{isChild, siblingsDiffer}
+use Rattle.node.specs.Store.{nodesIn, countAt, subtreesAt, parentAt, idAt, nameAt}
+use Rattle.siblings.specs.Siblings.{isChild}
 use Rattle.siblings.specs.InOrder.{Distinct as DistinctAt, differ-distinct}
 use Rattle.tree_write.specs.Order.{before, false-true, before-not, before-names}
 use Rattle.tree_write.specs.Tree.{after, countBytes, frontBytes, numberBytes, idBytes, headBytes, kids, each, nodeBytes}
 use Rattle.tree_write.specs.Proper.{isNever, holdsNone, climbs, childCount}
 use Rattle.tree_write.specs.Table.{Proper}
 use Rattle.tree_write.specs.Kids.{Mem, here, there, Rising, done, more, top, tally-all, cand, goes}
-use Rattle.grammar.specs.Number.{Digit, Digits, last-digit, digit, Unsigned, Count, covers, invalid, Signed, minus}
+use Rattle.grammar.specs.Number.{Digit, Digits, last-digit, digit, Count, covers, invalid, Signed, minus}
 use Rattle.grammar.specs.Number.Signed.{plain as no-sign}
 use Rattle.grammar.specs.Entry.{NoNul}
 use Rattle.grammar.specs.Entry.NoNul.{empty, byte}
-use Rattle.grammar.specs.Tree.{Tree, tree, Subtrees, childless, beside, nameOf, names, depth, deepest, nodes, nodesOf, Head, Id, of-tree, no-id, NodeHead, node-head, Other, alone, differs as other-differs, Distinct, no-names, one-more, Node, node, Nodes, no-node, one-node}
+use Rattle.grammar.specs.Tree.{Tree, tree, Subtrees, childless, beside, nameOf, names, depth, deepest, Head, Id, of-tree, no-id, NodeHead, node-head, Other, alone, differs as other-differs, Distinct, no-names, one-more, Node, node, Nodes, no-node, one-node}
 
 -- ---- digits
 

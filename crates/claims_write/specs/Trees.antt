@@ -1,16 +1,16 @@
 -- THE WRITTEN TREE (issue 7, 3): where TREE is written, its body is spelled and is the tree of the node table, every node once, siblings sorted by name; and the file means it. Assumes that
 -- the node table has fewer than 2^64 bytes, as every slice has.
-use Prim.Native.Nat.{ℕ, _+_, _^_, _≤_, _<_}
-use mathlib.Core.Path.{_≡_, refl, sym, ap, _∙_, subst}
-use mathlib.Core.Bool.{Bool, true, false}
+use Prim.Native.Nat.{ℕ, _^_, _≤_, _<_}
+use mathlib.Core.Path.{_≡_, sym, ap, _∙_}
+use mathlib.Core.Bool.{Bool, true}
 use mathlib.Core.List.{List}
-use mathlib.Core.Option.{Option, none, some}
+use mathlib.Core.Option.{none, some}
 use native.Mathlib.Omega.{arith}
 use lib.Dec.{lit≤}
 use lib.ListN.{length}
 use Rattle.laws.specs.Pick.{pick}
 use Rattle.sha1.specs.Sha1.{sha1}
-use Rattle.grammar.specs.Tree.{Tree, depth, nodes, Node}
+use Rattle.grammar.specs.Tree.{Tree, nodes, Node}
 use Rattle.grammar.specs.Reach.{depth-within, nodes-within}
 use Rattle.grammar.specs.DecideTree.{readTree, tree-decided}
 use Rattle.claims_tree.specs.Rendering.{treeBytes}
