@@ -1,4 +1,4 @@
--- DEMAND 2 (issue 7, 2 and 3): what the writer writes reads back. The reader, on the first `size` bytes of the output and with stores that are large enough, accepts, answers the version,
+-- DEMAND 2: what the writer writes reads back. The reader, on the first `size` bytes of the output and with stores that are large enough, accepts, answers the version,
 -- and its records show the table's, in order, without those marked REMOVE; and it stores the tree. Over all tables, both versions, with or without TREE, `sdir`, EOIE and hash. Assumes
 -- that the file is bytes and that no slice has 2^64 bytes or more, premises with names.
 use Prim.Native.Nat.{ℕ, _+_, _*_, _/_, _%_, _^_, _≤_, _<_}

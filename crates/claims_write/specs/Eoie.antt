@@ -1,4 +1,4 @@
--- EOIE AS IT IS WRITTEN IS FOUND by the EOIE reader, with the offset at which the extensions start (issue 7, 4). Assumes nothing.
+-- EOIE AS IT IS WRITTEN IS FOUND by the EOIE reader, with the offset at which the extensions start. Assumes nothing.
 use Prim.Native.Nat.{ℕ, suc, _+_, _^_, _≤_, _<_}
 use mathlib.Core.Path.{_≡_, refl, sym, ap, _∙_, subst}
 use mathlib.Core.Bool.{Bool, true, false}

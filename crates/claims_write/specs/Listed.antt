@@ -1,4 +1,4 @@
--- A proper node table whose nodes stand in the order in which they are written reads back as the same node list, name places aside (issue 7, 3). Over the length of an id and the
+-- A proper node table whose nodes stand in the order in which they are written reads back as the same node list, name places aside. Over the length of an id and the
 -- depth. Assumes nothing.
 use Prim.Native.Nat.{ℕ, zero, suc, _+_, _<_}
 use mathlib.Core.Path.{_≡_, refl, sym, ap, _∙_, subst}

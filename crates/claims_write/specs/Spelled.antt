@@ -1,4 +1,4 @@
--- WHAT THE WRITER WRITES IS SPELLED BY THE GRAMMAR (issue 7, 4): the file that it answers `Done` for, and the index that it means. Over all tables and all that may be asked for.
+-- WHAT THE WRITER WRITES IS SPELLED BY THE GRAMMAR: the file that it answers `Done` for, and the index that it means. Over all tables and all that may be asked for.
 -- Assumes nothing.
 use Prim.Native.Nat.{ℕ, zero, suc, _+_, _^_, _≤_, _<_}
 use mathlib.Core.Path.{_≡_, refl, sym, ap, _∙_, subst}

@@ -1,4 +1,4 @@
--- The tree that the writer writes of a proper node table is spelled by the grammar (issue 7, 3): each node with its name, its count and its id, and below it its children, all of
+-- The tree that the writer writes of a proper node table is spelled by the grammar: each node with its name, its count and its id, and below it its children, all of
 -- them, in byte order of name. Over the length of an id and the depth. Assumes that the node table has fewer than 2^64 bytes, as every slice has.
 use Prim.Native.Nat.{ℕ, zero, suc, _+_, _-_, _*_, _/_, _%_, _^_, _≤_, _<_}
 use mathlib.Core.Path.{_≡_, refl, sym, ap, _∙_, subst}

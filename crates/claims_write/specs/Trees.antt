@@ -1,4 +1,4 @@
--- THE WRITTEN TREE (issue 7, 3): where TREE is written, its body is spelled and is the tree of the node table, every node once, siblings sorted by name; and the file means it. Assumes that
+-- THE WRITTEN TREE: where TREE is written, its body is spelled and is the tree of the node table, every node once, siblings sorted by name; and the file means it. Assumes that
 -- the node table has fewer than 2^64 bytes, as every slice has.
 use Prim.Native.Nat.{ℕ, _^_, _≤_, _<_}
 use mathlib.Core.Path.{_≡_, sym, ap, _∙_}

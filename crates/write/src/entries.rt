@@ -83,13 +83,16 @@ fn record_size(records: &[u8], paths: &[u8], i: usize) -> usize
     (fixed + len + 8) / 8 * 8
 }
 
+// How often a record that is marked REMOVE counts.
+const COUNT_OF_REMOVED: usize = 0;
+
 // 1 for a record that is written.
 fn kept_of(records: &[u8], i: usize) -> usize
     ensures { λ r. ⌜ r ≡ keptOf (now (records .entry)) i ⌝ }
 {
     let flags = entry::flags_at(records, i);
     if entry::flags::is_removed(flags) {
-        return 0;
+        return COUNT_OF_REMOVED;
     }
     1
 }
