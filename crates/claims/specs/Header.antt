@@ -19,7 +19,9 @@ use Rattle.file.specs.Trailer as trailers
 use Rattle.grammar.specs.Number.{bigEndian}
 use Rattle.grammar.specs.File.{DIRC, headerLength, Supported, versionOf, countOf, GoodHeader}
 use Rattle.claims_entries.specs.Parts.{be-is}
-use Rattle.claims_extension.specs.Words.{Bytes, bytes-left, allBytes, bytes-if, FourBytes, signature-injective}
+use Rattle.claims_entries.specs.Rendering.{Bytes}
+use Rattle.claims_entries.specs.Fields.{bytes-left}
+use Rattle.claims_extension.specs.Words.{allBytes, bytes-if, FourBytes, signature-injective}
 use Rattle.claims.specs.Premises.{idLength, GoodTrailer, zeros, hashed}
 
 -- ---- the trailer

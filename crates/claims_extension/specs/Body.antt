@@ -9,7 +9,9 @@ use Rattle.laws.specs.Fill.{done, more}
 use Rattle.grammar.specs.Extension.{Ext, Framed, framed, extensionHeader, Extensions, bytesOf, LastSigned, last-signed}
 use Rattle.grammar.specs.Fault.{refused, Faulty, refused-extension, extensions-length}
 use Rattle.grammar.specs.DecideNumber.{big-endian-length}
-use Rattle.claims_extension.specs.Words.{Bytes, bytes-left, bytes-right, FourBytes}
+use Rattle.claims_entries.specs.Rendering.{Bytes}
+use Rattle.claims_entries.specs.Fields.{bytes-left, bytes-right}
+use Rattle.claims_extension.specs.Words.{FourBytes}
 use Rattle.claims_extension.specs.Said.{extensionsSpace}
 
 -- xs, which begins at one place, has the body at another

@@ -20,7 +20,8 @@ use Rattle.grammar.specs.Extension.{Ext, TREE, Extensions, NoneSigned, LastSign
 use Rattle.grammar.specs.File.{Tells}
 use Rattle.grammar.specs.Fault.{stray, refused, Faulty, fault-not-spelled}
 use Rattle.grammar.specs.Unique.{extensions-unique}
-use Rattle.claims_extension.specs.Words.{Bytes, bytes-within, FourBytes, signature-injective, TREE-bytes}
+use Rattle.claims_entries.specs.Rendering.{Bytes}
+use Rattle.claims_extension.specs.Words.{bytes-within, FourBytes, signature-injective, TREE-bytes}
 use Rattle.claims_extension.specs.Said.{extensionsSpace, HasSdir, SaysBody, says-missing, says-lies, SaysExtensions, says-filled, says-not-filled, says-mandatory, one-answer}
 use Rattle.claims_extension.specs.Body.{BodyAt, body-at, refused-is-four-bytes}
 use Rattle.claims_extension.specs.Means.{body-says, mark-says, chain-fills, chain-strays, chain-refused}

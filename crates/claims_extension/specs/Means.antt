@@ -29,7 +29,9 @@ use Rattle.grammar.specs.Fault as fault
 use Rattle.grammar.specs.Fault.{Faulty, stray-bytes, refused-extension}
 use Rattle.grammar.specs.File.{Tells, it-is, it-is-not}
 use Rattle.grammar.specs.DecideNumber.{big-endian-length}
-use Rattle.claims_extension.specs.Words.{Bytes, bytes-left, bytes-within, FourBytes, signature-injective, big-endian-before, big-endian-value, first-byte, sdir-bytes}
+use Rattle.claims_entries.specs.Rendering.{Bytes}
+use Rattle.claims_entries.specs.Fields.{bytes-left}
+use Rattle.claims_extension.specs.Words.{bytes-within, FourBytes, signature-injective, big-endian-before, big-endian-value, first-byte, sdir-bytes}
 use Rattle.claims_extension.specs.Said.{HasSdir, SaysBody, says-missing, says-lies, last-is-some, none-is-some}
 
 -- ---- which may stand

@@ -17,7 +17,8 @@ use Rattle.grammar.specs.Number.{big-endian}
 use Rattle.grammar.specs.Extension.{Ext, ext, framed, TREE, optional, Extensions, NoneSigned, none-left, another}
 use Rattle.grammar.specs.Unique.{extensions-unique}
 use Rattle.grammar.specs.DecideExtension.{none-not-last}
-use Rattle.claims_extension.specs.Words.{Bytes, allBytes, bytes-if}
+use Rattle.claims_entries.specs.Rendering.{Bytes}
+use Rattle.claims_extension.specs.Words.{allBytes, bytes-if}
 use Rattle.claims_extension.specs.Said.{extensionsSpace, SaysBody, says-lies, SaysExtensions, says-filled}
 use Rattle.claims_extension.specs.Claims.{says-exactly}
 

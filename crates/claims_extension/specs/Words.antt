@@ -12,23 +12,14 @@ use Rattle.laws.specs.Pick.{pick}
 use Rattle.laws.specs.Tests.{Less, less, not-less, less?}
 use Rattle.wire.specs.BigEndian.{beAt, be-left}
 use Rattle.extension.specs.Signatures as reader
+use Rattle.claims_entries.specs.Parts.{be-is}
+use Rattle.claims_entries.specs.Rendering.{Bytes}
+use Rattle.claims_entries.specs.Fields.{bytes-left, bytes-right}
 use Rattle.grammar.specs.Number.{followedBy, bigEndian, BigEndian, big-endian}
 use Rattle.grammar.specs.Extension.{sdir, TREE}
 use Rattle.grammar.specs.DecideNumber.{big-endian-snoc}
 
 -- ---- bytes
-
--- a list's elements are bytes
-abbrev pub Bytes : List ℕ → Type 0
-Bytes s = (i : ℕ) → getD s i 0 < 256
-
-pub bytes-left : (a b : List ℕ) → Bytes (a ++ b) → Bytes a
-bytes-left [] b h i = omega arith
-bytes-left (c ∷ a) b h zero = h zero
-bytes-left (c ∷ a) b h (suc i) = bytes-left a b (λ j. h (suc j)) i
-
-pub bytes-right : (a b : List ℕ) → Bytes (a ++ b) → Bytes b
-bytes-right a b h i = rw (← (getD-append-add a b i 0)) (h (length a + i))
 
 -- of a part of the list
 pub bytes-within : (s : List ℕ) (from end : ℕ) → Bytes s → Bytes (drop from (take end s))
@@ -80,18 +71,10 @@ signature-injective {a} {b} x y e = big-endian-injective a b (x .small) (y .smal
 
 -- ---- what stands at a place of a list
 
-pub big-endian-at : (w : ℕ) (s : List ℕ) (at : ℕ) → at + w ≤ length s → bigEndian (take w (drop at s)) ≡ beAt w s at
-unfolding beAt
-big-endian-at zero s at h = refl
-big-endian-at (suc w) s at h =
-    ap bigEndian (take-suc (drop at s) w 0 (omega (arith, length-drop at s)))
-    ∙ big-endian-snoc (take w (drop at s)) (getD (drop at s) w 0)
-    ∙ (λ i. big-endian-at w s at (omega arith) i * 256 + getD-drop at s w 0 i)
-
 -- the bytes from `end` on do not matter
 pub big-endian-before : (w : ℕ) (s : List ℕ) (at end : ℕ) → at + w ≤ length (take end s) → bigEndian (take w (drop at (take end s))) ≡ beAt w s at
 big-endian-before w s at end h =
-    big-endian-at w (take end s) at h ∙ sym (ap (λ (l : List ℕ). beAt w l at) (sym (take-append-drop end s)) ∙ be-left w (take end s) (drop end s) at h)
+    be-is w (take end s) at h ∙ sym (ap (λ (l : List ℕ). beAt w l at) (sym (take-append-drop end s)) ∙ be-left w (take end s) (drop end s) at h)
 
 pub big-endian-value : {w v : ℕ} {b : List ℕ} → BigEndian w b v → v ≡ bigEndian b
 big-endian-value (big-endian h) = refl

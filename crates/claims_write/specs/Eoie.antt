@@ -23,7 +23,7 @@ use Rattle.write.specs.declared.Options.{Options}
 use Rattle.write.specs.declared.Answer.the-variants.{Done}
 use Rattle.write.specs.Entries.{tableBytes}
 use Rattle.write.specs.File.{headerOf, extensionHead, treeHead, sparsePart, contents, eoiePart, trailerOf, frontOf, extensionsOf, bodyOf, offsetOf, closedOf, fileOf, writesTree, hasEoie, treeOf, bodyBytes, fileBytes, most, versionOf, writeAll}
-use Rattle.write.specs.Hash.{length-sha1}
+use Rattle.sha1.specs.Length.{length-sha1}
 use Rattle.write.specs.Parts.{length-head, length-header, length-trailer}
 use Rattle.claims_write.specs.Extensions.{EOIE}
 use Rattle.claims_write.specs.Spelled.{treeBody, written, done-says, fileIn, file-is, tree-small, count, before}

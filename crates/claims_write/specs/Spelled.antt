@@ -26,7 +26,7 @@ use Rattle.write.specs.declared.Options.{Options}
 use Rattle.write.specs.declared.Answer.the-variants.{Done, PathOutside, NotProper, TooLarge, ShortOutput}
 use Rattle.write.specs.Entries.{isGone, First, found, nowhere, firstFault, onFirst, keptOf, countOf, anyExtended, tableBytes}
 use Rattle.write.specs.File.{headerOf, versionOf, treeHead, sparsePart, contents, eoiePart, trailerOf, frontOf, extensionsOf, bodyOf, offsetOf, closedOf, fileOf, writesTree, hasEoie, treeOf, treeFits, bodyBytes, fileBytes, Outcome, outcome, most, writeFile, writeAll}
-use Rattle.write.specs.Hash.{length-sha1}
+use Rattle.sha1.specs.Length.{length-sha1}
 use Rattle.write.specs.Parts.{length-trailer}
 use Rattle.claims_write.specs.Meaning.{meaningsOf, PathsEnd}
 use Rattle.claims_write.specs.Entries.{big, entries-spelled}

@@ -13,6 +13,7 @@ use Rattle.wire.specs.Places.{fileAt}
 use Rattle.wire.specs.declared.FileAt.{FileAt}
 use Rattle.slices.specs.Bytes.{sameBytes}
 use Rattle.sha1.specs.Sha1.{added, compress, hashBlocks, hashAll, initial, padding, digestOf, sha1}
+use Rattle.sha1.specs.Length.{length-sha1}
 use Rattle.sha1.specs.Pieces.{digestAfter, fed, finished, fedAll}
 use Rattle.sha1.specs.Theorems.{pieces-finish}
 use Rattle.sha1.specs.declared.Digest.{Digest}
@@ -296,24 +297,9 @@ module _ (s : List ℕ) (c : Cursor) (x : Step) (e : x ≡ stepAt s (c .at .0) (
         let l : start .0 - c .at .0 ≡ 8 = omega (arith, f .body) in
         rw (f .place, f .bound, y, l) (sym (rw (run-more s (c .at .0) (c .end .0) (sym e ∙ q))) ∙ inv)
 
--- SHA-1 has twenty bytes
-digest-length : (h : List ℕ) → length (digestOf h) ≡ length h * 4
-unfolding digestOf
-digest-length [] = refl
-digest-length (x ∷ h) = length-append (bytesOf 4 x) (digestOf h) ∙ omega (arith, length-bytes 4 x, digest-length h)
-
-blocks-length : (n : ℕ) (h s : List ℕ) → length h ≡ 5 → length (hashBlocks n h s) ≡ 5
-unfolding hashBlocks compress added
-blocks-length zero h s e = e
-blocks-length (suc n) h s e = blocks-length n (compress h (take 64 s)) (drop 64 s) refl
-
-sum-length : (s : List ℕ) → length (sha1 s) ≡ 20
-unfolding sha1 initial
-sum-length s = digest-length (hashAll initial (s ++ padding (length s))) ∙ omega (arith, blocks-length (length (s ++ padding (length s)) / 64) initial (s ++ padding (length s)) refl)
-
 sum-twenty : (s : List ℕ) (offset start : ℕ) (p : Prior) → p ≡ priorAt s offset start → length (p .sum) ≡ 20
 unfolding priorAt
-sum-twenty s offset start p e = ap (λ (x : Prior). length (x .sum)) e ∙ sum-length (flatten (headersOf s (runAt s offset start .items)))
+sum-twenty s offset start p e = ap (λ (x : Prior). length (x .sum)) e ∙ length-sha1 (flatten (headersOf s (runAt s offset start .items)))
 
 -- EOIE has the hash of the extensions in front of it, or not, as t says
 module _ (s : List ℕ) (offset start : ℕ) (p : Prior) (e : p ≡ priorAt s offset start) where

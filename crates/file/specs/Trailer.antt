@@ -10,8 +10,8 @@ use lib.Seq.{take-all}
 use Rattle.laws.specs.Pick.{pick}
 use Rattle.slices.specs.Bytes.{sameBytes}
 use Rattle.slices.specs.Laws.{same-refl, same-equal}
-use Rattle.wire.specs.BigEndian.{bytesOf, length-bytes}
-use Rattle.sha1.specs.Sha1.{initial, padding, added, compress, hashBlocks, hashAll, digestOf, sha1}
+use Rattle.sha1.specs.Sha1.{sha1}
+use Rattle.sha1.specs.Length.{length-sha1}
 
 -- the file without its trailer, and the trailer
 abbrev pub content : ℕ → List ℕ → List ℕ
@@ -24,23 +24,6 @@ unfoldable pub goodTrailer : ℕ → List ℕ → Bool
 goodTrailer id s = pick (sameBytes (trailer id s) (replicate id 0)) true (sameBytes (trailer id s) (sha1 (content id s)))
 
 -- ---- what good means
-
--- a digest has twenty bytes
-digest-length : (h : List ℕ) → length (digestOf h) ≡ length h * 4
-unfolding digestOf
-digest-length [] = refl
-digest-length (x ∷ h) = length-append (bytesOf 4 x) (digestOf h) ∙ omega (arith, length-bytes 4 x, digest-length h)
-
-blocks-length : (n : ℕ) (h s : List ℕ) → length h ≡ 5 → length (hashBlocks n h s) ≡ 5
-unfolding hashBlocks compress added
-blocks-length zero h s e = e
-blocks-length (suc n) h s e = blocks-length n (compress h (take 64 s)) (drop 64 s) refl
-
-pub sha1-length : (s : List ℕ) → length (sha1 s) ≡ 20
-unfolding sha1 initial
-sha1-length s =
-    let t : List ℕ = s ++ padding (length s) in
-    digest-length (hashAll initial t) ∙ omega (arith, blocks-length (length t / 64) initial t refl)
 
 -- it is zeros, or the SHA-1 of the rest
 pub data Good (s : List ℕ) : Type 0 where
@@ -81,7 +64,7 @@ module _ (s : List ℕ) (n : ℕ) (h : 20 ≤ length s) (e : n ≡ length s - 20
   unfolding goodTrailer
   trailer-hash q d ed u eu =
       let g : d ≡ sha1 (content 20 s) = ed ∙ ap (λ (k : ℕ). sha1 (take k s)) e in
-      let l : take 20 (drop 0 d) ≡ sha1 (content 20 s) = take-all 20 d (omega (arith, ap length g, sha1-length (content 20 s))) ∙ g in
+      let l : take 20 (drop 0 d) ≡ sha1 (content 20 s) = take-all 20 d (omega (arith, ap length g, length-sha1 (content 20 s))) ∙ g in
       eu ∙ (λ i. sameBytes (last i) (l i)) ∙ sym (rw (← first-test, q))
 
 pub ruleset laws = (trailer-zeros, trailer-hash)

@@ -1,10 +1,10 @@
 -- Laws of `take`, `drop` and `getD` in the shapes that a loop over `i + 1` and a part of a list ask. Assumes nothing.
-use mathlib.Core.Path.{_≡_, subst}
+use mathlib.Core.Path.{_≡_, refl, ap, subst}
 use mathlib.Core.List.{List, [], _∷_, _++_}
-use Prim.Native.Nat.{ℕ, _+_, _≤_, _<_}
+use Prim.Native.Nat.{ℕ, zero, suc, _+_, _-_, _≤_, _<_}
 use native.Mathlib.Numerals.{add-one}
 use native.Mathlib.Omega.{arith}
-use lib.ListN.{length, getD, take, drop, length-drop}
+use lib.ListN.{length, getD, take, drop, replicate, length-drop}
 use lib.Seq.{drop-cons, getD-append-add, getD-drop, getD-take, length-take-le}
 
 -- one byte of what is left, in the code's own i + 1
@@ -19,3 +19,14 @@ getD-right p q n k e = subst (λ (m : ℕ). getD (p ++ q) (m + k) 0 ≡ getD q k
 
 pub getD-part : (s : List ℕ) (i n k : ℕ) → k < n → getD (take n (drop i s)) k 0 ≡ getD s (i + k) 0
 getD-part s i n k h = rw (getD-take, getD-drop)
+
+-- parts of equal elements
+pub take-replicate : (n m x : ℕ) → n ≤ m → take n (replicate m x) ≡ replicate n x
+take-replicate zero m x h = refl
+take-replicate (suc n) zero x h = absurd (omega arith)
+take-replicate (suc n) (suc m) x h = ap (λ (l : List ℕ). x ∷ l) (take-replicate n m x (omega arith))
+
+pub drop-replicate : (n m x : ℕ) → drop n (replicate m x) ≡ replicate (m - n) x
+drop-replicate zero m x = let e : m - 0 ≡ m = omega arith in rw e
+drop-replicate (suc n) zero x = let e : 0 - suc n ≡ 0 = omega arith in rw e
+drop-replicate (suc n) (suc m) x = let e : suc m - suc n ≡ m - n = omega arith in rw e (drop-replicate n m x)

@@ -54,3 +54,7 @@ paste-put d xs at n e = rw (e, take-length xs)
 pub set-put : (d : List ℕ) (at a : ℕ) → at < length d → set d at a ≡ put d at (a ∷ [])
 unfolding put
 set-put d at a h = rw (append-snoc (take at d) a (drop (at + 1) d), add-one at) (set-split d at a h)
+
+-- the same, from what two calls left: the second place is a number of its own
+pub put-then : (d d₁ d₂ a b : List ℕ) (k k₁ : ℕ) → d₁ ≡ put d k a → k₁ ≡ k + length a → d₂ ≡ put d₁ k₁ b → k ≤ length d → d₂ ≡ put d k (a ++ b)
+put-then d d₁ d₂ a b k k₁ e₁ p₁ e₂ room = e₂ ∙ (λ j. put (e₁ j) (p₁ j) b) ∙ put-put d a b k room

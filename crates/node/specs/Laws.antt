@@ -13,7 +13,7 @@ use lib.Seq.{paste, length-paste, take-all, take-length, length-take-le, drop-le
 use borrow.Author.Tests.{lt-ltb, le-ltb, le-leb, lt-leb, eq-eqb, ne-eqb}
 use Rattle.laws.specs.Pick.{pick}
 use Rattle.laws.specs.Tests.{lt-or-ge}
-use Rattle.laws.specs.Lists.{length-part, getD-part, getD-right}
+use Rattle.laws.specs.Lists.{drop-replicate, length-part, getD-part, getD-right}
 use Rattle.laws.specs.Paste.{paste-then, paste-take, getD-before, getD-pasted, getD-after}
 use Rattle.slices.specs.Bytes.{nulAt}
 use Rattle.slices.specs.Laws.{nul-bounds}
@@ -154,11 +154,6 @@ place-is w k e = ap fileAt e
 
 -- ---- a node's bytes, as the code pastes them
 
-drop-replicate : (k n : ℕ) → drop k (replicate {A = ℕ} n 0) ≡ replicate (n - k) 0
-drop-replicate zero n = let e : n - 0 ≡ n = omega arith in rw e
-drop-replicate (suc k) zero = let e : 0 - suc k ≡ 0 = omega arith in rw e
-drop-replicate (suc k) (suc n) = let e : suc n - suc k ≡ n - k = omega arith in rw e (drop-replicate k n)
-
 length-both : (p q : List ℕ) (m k : ℕ) → length p ≡ m → length q ≡ k → length (p ++ q) ≡ m + k
 length-both p q m k e f = length-append p q ∙ (λ i. e i + f i)
 
@@ -220,7 +215,7 @@ module _ (s : List ℕ) (n : Node) (parent : ℕ) (turned : n .id ≤ n .next) (
       let lxy : length (x ++ y) ≡ 40 + bytes = length-both x y 40 bytes lx ly in
       let whole : take (40 + bytes) (x ++ y) ≡ x ++ y = take-all (40 + bytes) (x ++ y) (omega arith) in
       let left : 72 - (0 + (40 + bytes)) ≡ 32 - bytes = omega arith in
-      let rest : drop (0 + (40 + bytes)) w ≡ replicate (32 - bytes) 0 = ap (λ (l : List ℕ). drop (0 + (40 + bytes)) l) ew ∙ drop-replicate (0 + (40 + bytes)) 72 ∙ ap (λ (k : ℕ). replicate k 0) left in
+      let rest : drop (0 + (40 + bytes)) w ≡ replicate (32 - bytes) 0 = ap (λ (l : List ℕ). drop (0 + (40 + bytes)) l) ew ∙ drop-replicate (0 + (40 + bytes)) 72 0 ∙ ap (λ (k : ℕ). replicate k 0) left in
       joined ∙ (λ k. whole k ++ rest k) ∙ append-assoc x y (replicate (32 - bytes) 0) ∙ ap (λ (k : ℕ). x ++ (take k (drop (n .id) s) ++ replicate (32 - k) 0)) eb
 
 -- the store with a node written, as the code returns it

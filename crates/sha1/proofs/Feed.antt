@@ -10,7 +10,7 @@ use lib.Seq.{paste, take-paste, take-all, length-take-le, drop-drop, take-at, dr
 use Rattle.laws.specs.Lists.{length-part}
 use Rattle.laws.specs.Paste.{paste-then, paste-take}
 use Rattle.wire.specs.BigEndian.{bytesOf, length-bytes}
-use Rattle.sha1.specs.Repeated.{take-replicate, drop-replicate}
+use Rattle.laws.specs.Lists.{take-replicate, drop-replicate}
 use Rattle.sha1.specs.Sha1.{compress, hashBlocks, hashAll, zerosOf, padding}
 use Rattle.sha1.specs.Pieces.{lastPart, feedState, filled, fed}
 use Rattle.sha1.specs.declared.Digest.{Digest}
@@ -20,7 +20,7 @@ use Rattle.sha1.specs.Theorems.{hash-short, last-short, hash-append, las
 
 filled-paste : (s : List ℕ) (n : ℕ) → length s ≡ n → n ≤ 64 → paste (replicate 64 0) 0 s n ≡ filled s
 unfolding filled
-filled-paste s n e h = rw (← e, zero-add (length s), take-length s, drop-replicate (length s) 64 0 (omega arith))
+filled-paste s n e h = rw (← e, zero-add (length s), take-length s, drop-replicate (length s) 64 0)
 
 pub joined-made : (a b d₁ d₂ : List ℕ) (n from m : ℕ) → n ≤ length a → from + m ≤ length b → n + m ≤ 64
     → d₁ ≡ paste (replicate 64 0) 0 (drop 0 a) n → d₂ ≡ paste d₁ n (drop from b) m → d₂ ≡ filled (take n a ++ take m (drop from b))

@@ -8,7 +8,7 @@ use native.Mathlib.Omega.{arith}
 use lib.ListN.{length, set, length-append}
 use lib.Seq.{paste}
 use borrow.Author.Tests.{lt-ltb, le-ltb, le-leb, lt-leb, eq-eqb, ne-eqb}
-use Rattle.laws.specs.Put.{put, put-none, put-put, length-put, paste-put, set-put}
+use Rattle.laws.specs.Put.{put-then, put, put-none, put-put, length-put, paste-put, set-put}
 use Rattle.laws.specs.Order.{Comparison, below, equal, beyond, compared, Compares, is-below, is-equal, is-beyond, compares, before-below, compared-same}
 use Rattle.sums.specs.Cap.{largest, cap, cap-fits, cap-small, cap-le, cap-below, cap-cap}
 use Rattle.wire.specs.Written.{digitsOf}
@@ -24,7 +24,7 @@ use Rattle.tree_write.specs.Tree.{countBytes, frontBytes, numberBytes, i
 -- a part right behind another
 module _ (d d₁ d₂ a b : List ℕ) (k k₁ : ℕ) (e₁ : d₁ ≡ put d k a) (p₁ : k₁ ≡ k + length a) where
   pub both-put : d₂ ≡ put d₁ k₁ b → k + length (a ++ b) ≤ length d → d₂ ≡ put d k (a ++ b)
-  both-put e₂ room = e₂ ∙ (λ j. put (e₁ j) (p₁ j) b) ∙ put-put d a b k (omega (arith, length-append a b))
+  both-put e₂ room = put-then d d₁ d₂ a b k k₁ e₁ p₁ e₂ (omega (arith, length-append a b))
 
   pub both-next : (k₂ : ℕ) → k₂ ≡ k₁ + length b → k₂ ≡ k + length (a ++ b)
   both-next k₂ p₂ = omega (arith, length-append a b)

@@ -21,7 +21,7 @@ use Rattle.write.specs.declared.entries.Sized.{Sized}
 use Rattle.write.specs.declared.entries.Sized.the-variants.{Of, Outside}
 use Rattle.write.specs.Entries.{isGone, faultOf, stated, fixedOf, frontAt, flagBytes, wholeOf, entryOf, recordBytes, beforeAt, entriesBytes, tableBytes, keptOf, versionWith, sizeRun, sizeTable}
 use Rattle.write.specs.File.{extensionHead, treeSignature, sparseSignature, eoieSignature, treeHead, sparsePart, contents, eoiePart, trailerOf}
-use Rattle.write.specs.Hash.{length-sha1}
+use Rattle.sha1.specs.Length.{length-sha1}
 use Rattle.write.specs.Parts.{length-head, length-eoie}
 use Rattle.write.specs.Size.{length-front, length-flags, length-entry}
 

@@ -8,7 +8,7 @@ use lib.ListN.{length, take, drop, length-append}
 use lib.Seq.{paste, take-at, length-take-le}
 use borrow.Author.Tests.{lt-ltb, le-ltb, le-leb}
 use Rattle.laws.specs.Pick.{pick}
-use Rattle.laws.specs.Put.{put, put-none, put-front, put-put, length-put, paste-put}
+use Rattle.laws.specs.Put.{put-then, put, put-none, put-front, put-put, length-put, paste-put}
 use Rattle.wire.specs.BigEndian.{bytesOf, length-bytes}
 use Rattle.sums.specs.Cap.{cap, cap-fits, cap-cap, cap-cap-right}
 use Rattle.sha1.specs.Sha1.{sha1}
@@ -91,9 +91,6 @@ tree-end t n k e = omega arith
 
 -- ---- bytes put side by side
 
-then-put : (d d₁ d₂ a b : List ℕ) (k k₁ : ℕ) → d₁ ≡ put d k a → k₁ ≡ k + length a → d₂ ≡ put d₁ k₁ b → k ≤ length d → d₂ ≡ put d k (a ++ b)
-then-put d d₁ d₂ a b k k₁ e₁ p₁ e₂ room = e₂ ∙ (λ j. put (e₁ j) (p₁ j) b) ∙ put-put d a b k room
-
 pub header-put : (d d₁ d₂ d₃ : List ℕ) (version count : ℕ) → 12 ≤ length d → d₁ ≡ paste d 0 (68 ∷ 73 ∷ 82 ∷ 67 ∷ []) 4 → d₂ ≡ paste d₁ 4 (bytesOf 4 version) 4 → d₃ ≡ paste d₂ 8 (bytesOf 4 count) 4 → d₃ ≡ put d 0 (headerOf version count)
 unfolding headerOf
 header-put d d₁ d₂ d₃ version count room e₁ e₂ e₃ =
@@ -101,9 +98,9 @@ header-put d d₁ d₂ d₃ version count room e₁ e₂ e₃ =
     let v : List ℕ = bytesOf 4 version in
     let c : List ℕ = bytesOf 4 count in
     let q₁ : d₁ ≡ put d 0 s = e₁ ∙ paste-put d s 0 4 refl in
-    let q₂ : d₂ ≡ put d 0 (s ++ v) = then-put d d₁ d₂ s v 0 4 q₁ refl (e₂ ∙ paste-put d₁ v 4 4 (sym (length-bytes 4 version))) (omega arith) in
+    let q₂ : d₂ ≡ put d 0 (s ++ v) = put-then d d₁ d₂ s v 0 4 q₁ refl (e₂ ∙ paste-put d₁ v 4 4 (sym (length-bytes 4 version))) (omega arith) in
     let p₂ : 8 ≡ 0 + length (s ++ v) = omega (arith, length-append s v, length-bytes 4 version) in
-    then-put d d₂ d₃ (s ++ v) c 0 8 q₂ p₂ (e₃ ∙ paste-put d₂ c 8 4 (sym (length-bytes 4 count))) (omega arith)
+    put-then d d₂ d₃ (s ++ v) c 0 8 q₂ p₂ (e₃ ∙ paste-put d₂ c 8 4 (sym (length-bytes 4 count))) (omega arith)
 
 -- ---- header and entries
 
@@ -128,7 +125,7 @@ module _ (rs ps : List ℕ) (version count : ℕ) where
 
       pub front-put : (d₂ : List ℕ) → d₂ ≡ put d₁ 12 (tableBytes 20 rs ps) → d₂ ≡ put d 0 (frontOf 20 rs ps version count)
       unfolding frontOf
-      front-put d₂ e₂ = then-put d d₁ d₂ h es 0 12 e₁ (omega (arith, length-header version count)) e₂ (omega arith)
+      front-put d₂ e₂ = put-then d d₁ d₂ h es 0 12 e₁ (omega (arith, length-header version count)) e₂ (omega arith)
 
 -- ---- TREE and `sdir`
 
@@ -166,9 +163,9 @@ module _ (writes : Bool) (t : List ℕ) (sparse : Bool) where
         extensions-put d₃ e₃ =
             let z : treeHead writes n ≡ th = ap (λ (x : ℕ). treeHead writes x) en in
             let q₁ : d₁ ≡ put d k th = e₁ ∙ ap (λ (x : List ℕ). put d k x) z in
-            let q₂ : d₂ ≡ put d k (th ++ t) = then-put d d₁ d₂ th t k k₁ q₁ (p₁ ∙ ap (λ (x : List ℕ). k + length x) z) e₂ (omega arith) in
+            let q₂ : d₂ ≡ put d k (th ++ t) = put-then d d₁ d₂ th t k k₁ q₁ (p₁ ∙ ap (λ (x : List ℕ). k + length x) z) e₂ (omega arith) in
             let n₂ : k₂ ≡ k + length (th ++ t) = omega (arith, length-append th t, headed) in
-            then-put d d₂ d₃ (th ++ t) (sparsePart sparse) k k₂ q₂ n₂ e₃ (omega arith)
+            put-then d d₂ d₃ (th ++ t) (sparsePart sparse) k k₂ q₂ n₂ e₃ (omega arith)
 
 -- ---- EOIE and the trailer
 
@@ -186,7 +183,7 @@ module _ (skips : Bool) (d e : List ℕ) (k : ℕ) (room : k + (length e + 20) �
 
     pub end-put : (d₂ : List ℕ) → d₂ ≡ put d₁ k₁ (trailerOf 20 sha1 skips (take k₁ d₁)) → d₂ ≡ put d k (endOf 20 sha1 skips (take k d) e)
     unfolding endOf
-    end-put d₂ e₂ = then-put d d₁ d₂ e (trailerOf 20 sha1 skips (take k d ++ e)) k k₁ e₁ p₁ (e₂ ∙ ap (λ (x : List ℕ). put d₁ k₁ (trailerOf 20 sha1 skips x)) before) (omega arith)
+    end-put d₂ e₂ = put-then d d₁ d₂ e (trailerOf 20 sha1 skips (take k d ++ e)) k k₁ e₁ p₁ (e₂ ∙ ap (λ (x : List ℕ). put d₁ k₁ (trailerOf 20 sha1 skips x)) before) (omega arith)
 
 -- ---- sizes
 
@@ -263,7 +260,7 @@ module _ (rs ps : List ℕ) (version count : ℕ) (writes : Bool) (t : List ℕ)
 
         laid : d₂ ≡ put d 0 body
         unfolding bodyOf
-        laid = then-put d d₁ d₂ front extensions 0 k₁ e₁ (omega (arith, length-front-of rs ps version count)) e₂ (omega arith)
+        laid = put-then d d₁ d₂ front extensions 0 k₁ e₁ (omega (arith, length-front-of rs ps version count)) e₂ (omega arith)
 
         before-end : take k₂ d₂ ≡ body
         before-end = (λ j. take (place j) ((laid ∙ put-front d body) j)) ∙ take-at body (drop (length body) d) (length body) refl
@@ -274,7 +271,7 @@ module _ (rs ps : List ℕ) (version count : ℕ) (writes : Bool) (t : List ℕ)
         fill-put d₃ e₃ =
             let e : List ℕ = eoiePart 20 sha1 has k₁ (contents writes n sparse) in
             let q : d₃ ≡ put d 0 (body ++ (e ++ trailerOf 20 sha1 skips (body ++ e)))
-            = then-put d d₂ d₃ body (e ++ trailerOf 20 sha1 skips (body ++ e)) 0 k₂ laid (omega (arith, place)) (e₃ ∙ ap (λ (x : List ℕ). put d₂ k₂ (e ++ trailerOf 20 sha1 skips (x ++ e))) before-end) (omega arith) in
+            = put-then d d₂ d₃ body (e ++ trailerOf 20 sha1 skips (body ++ e)) 0 k₂ laid (omega (arith, place)) (e₃ ∙ ap (λ (x : List ℕ). put d₂ k₂ (e ++ trailerOf 20 sha1 skips (x ++ e))) before-end) (omega arith) in
             q
             ∙ ap (λ (x : List ℕ). put d 0 x) (sym (append-assoc body e (trailerOf 20 sha1 skips (body ++ e))))
             ∙ ap (λ (x : ℕ). put d 0 ((body ++ eoiePart 20 sha1 has x (contents writes n sparse)) ++ trailerOf 20 sha1 skips (body ++ eoiePart 20 sha1 has x (contents writes n sparse)))) p₁

@@ -9,7 +9,7 @@ use Rattle.wire.specs.BigEndian.{bytesOf, length-bytes}
 use Rattle.sha1.specs.Sha1.{sha1}
 use Rattle.entry.specs.Record.{recordsIn}
 use Rattle.write.specs.declared.Options.{Options}
-use Rattle.write.specs.Hash.{length-sha1}
+use Rattle.sha1.specs.Length.{length-sha1}
 use Rattle.write.specs.Entries.{countOf, tableBytes}
 use Rattle.write.specs.File.{headerOf, versionOf, extensionHead, treeSignature, sparseSignature, eoieSignature, treeHead, sparsePart, contents, eoiePart, trailerOf, frontOf, extensionsOf, bodyOf, offsetOf, closedOf, fileOf, headSize, writesTree, hasEoie, treeOf, bodyBytes, fileBytes}
 

@@ -6,7 +6,7 @@ use Prim.Native.Nat.{ℕ, _+_, _-_, _≤_, _<_}
 use mathlib.Core.List.{List, _++_}
 use lib.ListN.{take, replicate, replicate-append-replicate}
 use lib.Seq.{length-take-le}
-use Rattle.sha1.specs.Repeated.{take-replicate}
+use Rattle.laws.specs.Lists.{take-replicate}
 use Rattle.sha1.specs.Pieces.{digestAfter, fed, finished}
 use Rattle.sha1.specs.Theorems.{fed-after, finished-after}
 use Rattle.sha1.specs.declared.Digest.{Digest}
