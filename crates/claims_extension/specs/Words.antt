@@ -3,11 +3,10 @@
 use Prim.Native.Nat.{ℕ, zero, suc, _+_, _*_, _/_, _≤_, _<_}
 use mathlib.Core.Path.{_≡_, refl, sym, ap, _∙_}
 use mathlib.Core.Bool.{Bool, true, false}
-use mathlib.Core.List.{List, [], _∷_, _++_}
+use mathlib.Core.List.{List, [], _∷_}
 use native.Mathlib.Omega.{arith}
 use lib.Dec.{ltb}
-use lib.ListN.{length, getD, take, drop, length-drop, take-append-drop}
-use lib.Seq.{take-suc, getD-drop, getD-append-add}
+use lib.ListN.{length, getD, take, drop, take-append-drop}
 use Rattle.laws.specs.Pick.{pick}
 use Rattle.laws.specs.Tests.{Less, less, not-less, less?}
 use Rattle.wire.specs.BigEndian.{beAt, be-left}
@@ -17,7 +16,6 @@ use Rattle.claims_entries.specs.Rendering.{Bytes}
 use Rattle.claims_entries.specs.Fields.{bytes-left, bytes-right}
 use Rattle.grammar.specs.Number.{followedBy, bigEndian, BigEndian, big-endian}
 use Rattle.grammar.specs.Extension.{sdir, TREE}
-use Rattle.grammar.specs.DecideNumber.{big-endian-snoc}
 
 -- ---- bytes
 

@@ -1,18 +1,18 @@
 -- Laws of the crate's definitions in the directions that the code's proofs ask. Assumes nothing.
-use mathlib.Core.Path.{_≡_, refl, sym, ap, _∙_}
+use mathlib.Core.Path.{_≡_, sym, ap, _∙_}
 use mathlib.Core.Bool.{Bool, true, false}
-use mathlib.Core.List.{List, [], _∷_, _++_, flatten}
-use Prim.Native.Nat.{ℕ, zero, suc, _+_, _-_, _*_, _/_, _%_, _≤_, _<_}
+use mathlib.Core.List.{List, [], flatten}
+use Prim.Native.Nat.{ℕ, _+_, _-_, _*_, _/_, _%_, _≤_, _<_}
 use native.Mathlib.Omega.{arith}
-use lib.ListN.{length, take, drop, length-append}
+use lib.ListN.{length, take, drop}
 use lib.Seq.{take-all}
 use lib.Dec.{ltb}
 use borrow.Author.Tests.{lt-ltb, le-ltb, le-leb, lt-leb, eq-eqb, ne-eqb}
-use Rattle.wire.specs.BigEndian.{beAt, bytesOf, length-bytes}
+use Rattle.wire.specs.BigEndian.{beAt}
 use Rattle.wire.specs.Places.{fileAt}
 use Rattle.wire.specs.declared.FileAt.{FileAt}
 use Rattle.slices.specs.Bytes.{sameBytes}
-use Rattle.sha1.specs.Sha1.{added, compress, hashBlocks, hashAll, initial, padding, digestOf, sha1}
+use Rattle.sha1.specs.Sha1.{sha1}
 use Rattle.sha1.specs.Length.{length-sha1}
 use Rattle.sha1.specs.Pieces.{digestAfter, fed, finished, fedAll}
 use Rattle.sha1.specs.Theorems.{pieces-finish}

@@ -1,20 +1,19 @@
 -- Laws of a node's head and of the node store: in the directions that the proofs of `src/` ask, what a head that was read says, that what was put is found, and that
 -- the other nodes are as they were. Assumes nothing.
-use mathlib.Core.Path.{_≡_, refl, sym, ap, subst, _∙_}
-use mathlib.Core.Bool.{Bool, true, false}
-use mathlib.Core.List.{List, [], _∷_, _++_, append-nil, append-assoc}
-use mathlib.Core.Logic.{_⊎_, inl, inr, ⊎-elim}
-use Prim.Native.Nat.{ℕ, zero, suc, _+_, _-_, _*_, _/_, _^_, _≤_, _<_}
-use native.Mathlib.Nat.{zero-add, add-assoc}
+use mathlib.Core.Path.{_≡_, refl, sym, ap, _∙_}
+use mathlib.Core.Bool.{Bool, false}
+use mathlib.Core.List.{List, [], _++_, append-assoc}
+use mathlib.Core.Logic.{_⊎_, ⊎-elim}
+use Prim.Native.Nat.{ℕ, _+_, _-_, _*_, _/_, _^_, _≤_, _<_}
+use native.Mathlib.Nat.{add-assoc}
 use native.Mathlib.Omega.{arith}
-use lib.ListN.{length, getD, take, drop, replicate, length-append, length-replicate, length-drop}
-use lib.Dec.{ltb, leb, eqb, lit≤}
-use lib.Seq.{paste, length-paste, take-all, take-length, length-take-le, drop-length, ext-getD, drop-at, drop-drop}
+use lib.ListN.{length, getD, take, drop, replicate, length-append, length-replicate}
+use lib.Dec.{leb, lit≤}
+use lib.Seq.{paste, length-paste, take-all}
 use borrow.Author.Tests.{lt-ltb, le-ltb, le-leb, lt-leb, eq-eqb, ne-eqb}
-use Rattle.laws.specs.Pick.{pick}
 use Rattle.laws.specs.Tests.{lt-or-ge}
-use Rattle.laws.specs.Lists.{drop-replicate, length-part, getD-part, getD-right}
-use Rattle.laws.specs.Paste.{paste-then, paste-take, getD-before, getD-pasted, getD-after}
+use Rattle.laws.specs.Lists.{drop-replicate, length-part}
+use Rattle.laws.specs.Paste.{paste-then, paste-take, getD-before, getD-after}
 use Rattle.slices.specs.Bytes.{nulAt}
 use Rattle.slices.specs.Laws.{nul-bounds}
 use Rattle.slices.specs.declared.Ends.{Ends}

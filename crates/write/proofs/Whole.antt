@@ -8,7 +8,7 @@ use lib.ListN.{length, take, drop, length-append}
 use lib.Seq.{paste, take-at, length-take-le}
 use borrow.Author.Tests.{lt-ltb, le-ltb, le-leb}
 use Rattle.laws.specs.Pick.{pick}
-use Rattle.laws.specs.Put.{put-then, put, put-none, put-front, put-put, length-put, paste-put}
+use Rattle.laws.specs.Put.{put-then, put, put-none, put-front, length-put, paste-put}
 use Rattle.wire.specs.BigEndian.{bytesOf, length-bytes}
 use Rattle.sums.specs.Cap.{cap, cap-fits, cap-cap, cap-cap-right}
 use Rattle.sha1.specs.Sha1.{sha1}
