@@ -5,7 +5,6 @@ ghost use mathlib.Core.Path.{_≡_};
 ghost use Prim.Native.Nat.{_+_, _-_, _*_, _≤_};
 ghost use lib.ListN.{length};
 ghost use lib.Seq.{paste};
-ghost use Rattle.wire.specs.Places.{pathAt};
 ghost use Rattle.entry.specs.Record.{putRecord};
 ghost use Rattle.measure.specs.Entry.{idLength};
 ghost use Rattle.decode.specs.Bounds.{blockSize, minEntrySize, maxEntries};

@@ -2,13 +2,11 @@
 -- subtrees are read by the same rule one level down. Where a node should begin: 9 (depth), 10 (node room), then its bytes; a repeated name spoils the tree when its
 -- parent's last subtree is done; nothing follows the root. Where the answer is no tree, every byte of the store is zero. Assumes nothing.
 use Prim.Native.Nat.{ℕ, zero, suc, _+_}
-use mathlib.Core.Bool.{Bool}
 use mathlib.Core.List.{List}
 use lib.ListN.{length, replicate}
 use lib.Dec.{ltb, leb, eqb}
 use Rattle.laws.specs.Pick.{pick}
 use Rattle.refusal.specs.Refusal.{too-deep, no-node-room}
-use Rattle.node.specs.declared.Node.{Node}
 use Rattle.node.specs.declared.Head.{Head}
 use Rattle.node.specs.declared.Head.the-variants.{Is, Nothing}
 use Rattle.node.specs.Head.{minusOne, headAt}

@@ -1,7 +1,6 @@
 // The TREE extension: a node and its subtrees, in file order, into a lent node store. Where the tree is malformed, too deep or too large for the store, every byte
 // lent is zeroed.
 ghost use mathlib.Core.Path.{_≡_};
-ghost use lib.ListN.{length};
 ghost use Rattle.tree.specs.Tree.{nodeAt, settledAs, rootAt, readTree, answerOf, refusalOf};
 ghost use Rattle.siblings.specs.InOrder.{SoFar};
 use node::Head;
