@@ -1,6 +1,6 @@
 -- What a reading of a cache tree leaves, through the accessors: each node of the store shows its node's meaning, by the number that file order gives it, with its name where it
 -- stands in the file. Assumes that the part lies in the file, that an id fits its place in the store, and that 64 bits address each byte of file and store, each a premise.
-use Prim.Native.Nat.{ℕ, _+_, _-_, _*_, _^_, _≤_, _<_}
+use Prim.Native.Nat.{ℕ, _+_, _-_, _*_, _/_, _^_, _≤_, _<_}
 use mathlib.Core.Path.{_≡_, refl, sym, ap, _∙_, subst}
 use mathlib.Core.List.{List, [], _∷_, _++_, append-assoc, append-nil}
 use native.Mathlib.Nat.{add-assoc}
@@ -123,7 +123,7 @@ numbers (node-head {name = name} {c = c} {k = k} {id = id} x y z w) =
 
 module _ (n : ℕ) (fits : n ≤ 32) where
   mutual
-    tree-length : (t : Tree) {place : ℕ} {b : List ℕ} → Node n place b t → (parent i : ℕ) → length (nodesBytes parent i t) ≡ nodes t * 72
+    pub tree-length : (t : Tree) {place : ℕ} {b : List ℕ} → Node n place b t → (parent i : ℕ) → length (nodesBytes parent i t) ≡ nodes t * 72
     tree-length (tree place name count id ts) (node u us dd e) parent i =
         let k : length id ≤ n = numbers u .id in
         let l = subtrees-length ts us i (i + 1) in
@@ -181,3 +181,11 @@ module _ (n : ℕ) (fits : n ≤ idRoom) (limit : ℕ) (s : List ℕ) (start end
       let long : length ms ≡ length ns = ap length f ∙ omega (arith, length-append (treeBytes t) (drop (length (treeBytes t)) ns), length-drop (length (treeBytes t)) ns) in
       let lies : Lies s start end (part s start end) = lies-from s start end (part s start end) [] (lies-in .ahead) (lies-in .inside) (sym (append-nil (part s start end))) in
       (t, x, e, tree-shown n fits s end (lies-in .inside) (omega arith) ms (omega arith) t x lies minusOne 0 (drop (length (treeBytes t)) ns) (omega arith) (omega arith) f)
+
+-- a tree that is spelled in the file and fills a store is shown by it
+pub rendered-is-shown : (n : ℕ) → n ≤ idRoom → (s : List ℕ) (end : ℕ) → end ≤ length s → Addressable s → (t : Tree) {place : ℕ} {b : List ℕ} → Node n place b t → Lies s place end b → Addressable (treeBytes t)
+    → ShowsTree s (treeBytes t) minusOne 0 t
+rendered-is-shown n fits s end inside short t x lies small =
+    let size : length (treeBytes t) ≡ nodes t * 72 = tree-length n fits t x minusOne 0 in
+    let many : 0 + nodes t ≤ length (treeBytes t) / 72 = omega arith in
+    tree-shown n fits s end inside (omega arith) (treeBytes t) (omega arith) t x lies minusOne 0 [] (omega arith) many (sym (append-nil (treeBytes t)))

@@ -1,5 +1,5 @@
 -- The modules of claims_write. To be read: `Meaning`, and the theorems of `Spelled` (what is written is spelled), `Trees` (and so is the tree), `Eoie` (EOIE is found) and `Claims` (demand 2,
--- what is written reads back). `Entries`, `Extensions`, `Tree`, `Count`, `Kept` and `Reading` lead there.
+-- what is written reads back), and `Stored` (what was read in order is in file order). `Entries`, `Extensions`, `Tree`, `Count`, `Kept` and `Reading` lead there.
 pub mod Meaning
 pub mod Entries
 pub mod Extensions
@@ -7,6 +7,7 @@ pub mod Spelled
 pub mod Tree
 pub mod Count
 pub mod Listed
+pub mod Stored
 pub mod Trees
 pub mod Eoie
 pub mod Kept
