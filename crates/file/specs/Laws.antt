@@ -12,7 +12,8 @@ use Rattle.wire.specs.Places.{fileAt}
 use Rattle.wire.specs.BigEndian.{beAt}
 use Rattle.wire.specs.declared.FileAt.{FileAt}
 use Rattle.wire.specs.declared.PathAt.{PathAt}
-use Rattle.decode.specs.Header.{headerSize, signature, onVersion, headerAt}
+use Rattle.format.specs.Format.{headerSize}
+use Rattle.decode.specs.Header.{signature, onVersion, headerAt}
 use Rattle.decode.specs.declared.header.Header.{Header}
 use Rattle.decode.specs.declared.header.Header.the-variants.{Opens, ShortFile, NoSignature, OtherVersion}
 use Rattle.decode.specs.Entries as entries

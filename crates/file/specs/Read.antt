@@ -6,7 +6,8 @@ use mathlib.Core.List.{List}
 use lib.ListN.{length}
 use Rattle.laws.specs.Pick.{pick}
 use Rattle.wire.specs.Places.{fileAt, pathAt}
-use Rattle.decode.specs.Header.{headerSize, headerAt}
+use Rattle.format.specs.Format.{headerSize}
+use Rattle.decode.specs.Header.{headerAt}
 use Rattle.decode.specs.declared.header.Header.{Header}
 use Rattle.decode.specs.declared.header.Header.the-variants.{Opens, ShortFile, NoSignature, OtherVersion}
 use Rattle.decode.specs.Entries as entries

@@ -19,10 +19,6 @@ use Rattle.tree.specs.declared.Step.the-variants.{Read, Stops}
 use Rattle.tree.specs.declared.TreeAnswer.{TreeAnswer}
 use Rattle.tree.specs.declared.TreeAnswer.the-variants.{Tree, Malformed, TooDeep, NoRoom}
 
--- the depth limit: the root has depth 1
-abbrev pub depthLimit : ℕ
-depthLimit = 64
-
 -- an answer, and the store with it
 abbrev pub Out : Type 0
 Out = Step × List ℕ

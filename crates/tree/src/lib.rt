@@ -6,9 +6,6 @@ ghost use Rattle.siblings.specs.InOrder.{SoFar};
 use node::Head;
 use siblings::Rising;
 
-// How deep a tree may be; the root has depth 1.
-pub const DEPTH_LIMIT: usize = 64;
-
 // Why a walk stops.
 pub enum Fault {
     Unspelled,
@@ -112,7 +109,15 @@ fn root(file: &[u8], start: usize, end: usize, nodes: &mut [u8]) -> Step
     if file.len() < end {
         return Step::Stops(Fault::Unspelled);
     }
-    let a = one_recursive(file, start, end, nodes, 0, node::MINUS_ONE, DEPTH_LIMIT);
+    let a = one_recursive(
+        file,
+        start,
+        end,
+        nodes,
+        0,
+        node::MINUS_ONE,
+        format::DEPTH_LIMIT,
+    );
     match a {
         Step::Stops(f) => Step::Stops(f),
         Step::Read { next, used } => {
