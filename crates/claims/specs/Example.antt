@@ -8,7 +8,6 @@ use native.Mathlib.Omega.{arith}
 use lib.Dec.{lit≤, lit<}
 use lib.ListN.{length, replicate, length-append}
 use Rattle.laws.specs.Times.{done, more}
-use Rattle.file.specs.Marked.{least-file}
 use Rattle.grammar.specs.Extension.{Ext, LastSigned, last-signed, bytesOf}
 use Rattle.file.specs.Read.{readFile}
 use Rattle.grammar.specs.File.{Index, File, space}
@@ -17,6 +16,7 @@ use Rattle.claims_entries.specs.Rendering.{pathsBytes}
 use Rattle.claims_entries.specs.Said.{RoomFor}
 use Rattle.claims_extension.specs.Words.{allBytes, bytes-if}
 use Rattle.claims.specs.Premises.{idLength, Slices, zeros}
+use Rattle.claims.specs.Marked.{least-file}
 use Rattle.claims.specs.Said.{Opened}
 use Rattle.claims.specs.Claims.{TreeFits, IsRead, accepted-exactly-if-spelled}
 
