@@ -43,8 +43,8 @@ pub eight-is : (s : List ℕ) (i r : ℕ) → r ≡ four (getD s i 0) (getD s (i
 eight-is s i r e =
     let high : four (getD s i 0) (getD s (i + 1) 0) (getD s (i + 2) 0) (getD s (i + 3) 0) ≡ beAt 4 s i = be32-is s i _ refl in
     let low : four (getD s (i + 4) 0) (getD s (i + 5) 0) (getD s (i + 6) 0) (getD s (i + 7) 0) ≡ beAt 4 s (i + 4) =
-        let p : i + 4 + 1 ≡ i + 5 = omega arith in
-        let q : i + 4 + 2 ≡ i + 6 = omega arith in
-        let t : i + 4 + 3 ≡ i + 7 = omega arith in
-        be32-is s (i + 4) _ (rw (p, q, t)) in
+    let p : i + 4 + 1 ≡ i + 5 = omega arith in
+    let q : i + 4 + 2 ≡ i + 6 = omega arith in
+    let t : i + 4 + 3 ≡ i + 7 = omega arith in
+    be32-is s (i + 4) _ (rw (p, q, t)) in
     e ∙ be64-is s i _ _ high low

@@ -111,7 +111,16 @@ fn eight_at(s: &[u8], at: usize) -> u64
     requires { ⌜ at + 8 ≤ length (now s) ⌝ }
     ensures { λ r. ⌜ r ≡ beAt 8 (now (s .entry)) at ⌝ }
 {
-    eight::number_of(s[at], s[at + 1], s[at + 2], s[at + 3], s[at + 4], s[at + 5], s[at + 6], s[at + 7])
+    eight::number_of(
+        s[at],
+        s[at + 1],
+        s[at + 2],
+        s[at + 3],
+        s[at + 4],
+        s[at + 5],
+        s[at + 6],
+        s[at + 7],
+    )
 }
 
 // The eight bytes at k of record i; 0 where there is no such record.
