@@ -320,9 +320,12 @@ pub fn table(r: &mut Rng) -> Vec<Entry> {
     t
 }
 
-/// A table to be written: as above, and some paths near and above the longest length that an entry can state.
+/// A table to be written: as above, with more of the modes that git knows, and some paths near and above the longest length that an entry can state.
 pub fn written_table(r: &mut Rng) -> Vec<Entry> {
     let mut t = table(r);
+    if r.one_in(2) {
+        t.iter_mut().for_each(|e| e.fields[6] = r.pick(&[0o100644, 0o100644, 0o100755, 0o120000, 0o160000, 0o40000]));
+    }
     if t.len() < 14 && r.one_in(12) {
         for e in &mut t {
             if r.one_in(2) {
