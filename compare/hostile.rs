@@ -7,7 +7,7 @@ use crate::model::{NODE, RECORD};
 use crate::write_cases::Table;
 use std::io::Write;
 use std::os::unix::process::ExitStatusExt;
-use std::process::Command;
+use std::process::{Command, ExitStatus};
 
 extern "C" {
     fn mmap(at: *mut u8, n: usize, protection: i32, flags: i32, file: i32, offset: i64) -> *mut u8;
@@ -157,7 +157,8 @@ fn spoiled(r: &mut Rng, mut s: Vec<u8>) -> Vec<u8> {
         if s.len() < 8 {
             break;
         }
-        let at = r.below(s.len() - 7);
+        // half of them where a field may begin
+        let at = r.below(s.len() - 7) & if r.one_in(2) { !3 } else { !0 };
         match r.below(3) {
             0 => s[at] ^= 1 << r.below(8),
             1 => s[at] = r.next() as u8,
@@ -326,11 +327,11 @@ pub fn turn(turn: Turn, fault: Fault, seed: u64, rounds: u64) {
     println!("calls: {}; {} reads and {} writes not refused", calls.join(", "), h.done[0], h.done[1]);
 }
 
-/// One turn in a child: its last line, and how it ended.
-fn child(turn: Turn, fault: Fault, seed: u64, rounds: u64) -> (String, std::process::ExitStatus) {
-    let words = [format!("--hostile-turn"), format!("{turn:?}"), format!("{fault:?}"), "--seed".into(), seed.to_string(), "--rounds".into(), rounds.to_string()];
+/// One turn in a child: its last line, how it ended, and what it said of that.
+fn child(turn: Turn, fault: Fault, seed: u64, rounds: u64) -> (String, ExitStatus, String) {
+    let words = ["--hostile-turn".into(), format!("{turn:?}"), format!("{fault:?}"), "--seed".into(), seed.to_string(), "--rounds".into(), rounds.to_string()];
     let out = Command::new(std::env::current_exe().unwrap()).args(words).output().expect("this program runs again");
-    (String::from_utf8_lossy(&out.stdout).lines().last().unwrap_or("").to_string(), out.status)
+    (String::from_utf8_lossy(&out.stdout).lines().last().unwrap_or("").to_string(), out.status, String::from_utf8_lossy(&out.stderr).into_owned())
 }
 
 /// Whether every function that the header declares is called here.
@@ -347,8 +348,9 @@ fn calls_all() -> bool {
 pub fn run(seed: u64, rounds: u64) -> usize {
     let mut failures = !calls_all() as usize;
     for turn in [Turn::Behind, Turn::Before] {
-        let (last, ended) = child(turn, Fault::Nothing, seed, rounds);
-        println!("hostile input, {rounds} rounds, seed {seed}, the page {turn:?} every slice: {} ({last})", if ended.success() { "no byte outside" } else { "FAILED" });
+        let (last, ended, said) = child(turn, Fault::Nothing, seed, rounds);
+        let verdict = if ended.success() { "no byte outside".into() } else { format!("FAILED, {ended}: {said}") };
+        println!("hostile input, {rounds} rounds, seed {seed}, the page {turn:?} every slice: {verdict}\n    {last}");
         failures += !ended.success() as usize;
     }
     failures
@@ -359,7 +361,7 @@ pub fn self_test(seed: u64) -> bool {
     let mut good = true;
     for turn in [Turn::Behind, Turn::Before] {
         for (fault, wanted) in [(Fault::Nothing, None), (Fault::Touch, Some(11)), (Fault::Told, Some(11)), (Fault::Changed, None)] {
-            let (_, ended) = child(turn, fault, seed, 50);
+            let (_, ended, _) = child(turn, fault, seed, 50);
             let right = ended.signal() == wanted && (fault == Fault::Nothing) == ended.success();
             println!("{}: hostile input, {turn:?}, {fault:?} planted: {ended}", if right { "as it should be" } else { "NOT AS IT SHOULD BE" });
             good &= right;
