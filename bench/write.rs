@@ -1,7 +1,8 @@
 // Measures the proved writer, as the static library exports it, against the Rust's `State::write_to`: 50,000 records, without TREE and with one of 4,041 nodes, with
 // twenty zeros for a trailer and with the hash. `bench/write` builds and runs this.
 // Both write into memory that was lent once. They take turns, and the least time of each counts. The published `write_to` writes no trailer: beside it the bytes are
-// hashed by the oracle's SHA-1, which is plain scalar code, or twenty zeros are put behind them. What was written is compared, byte by byte.
+// hashed by the oracle's SHA-1, plain scalar code that uses no SHA instructions (nor does ours), or twenty zeros are put behind them. What was written is compared, byte
+// by byte.
 //   write FILE ROUNDS     FILE: an index of version 2 without TREE
 use gix_index::{decode, init, write, State};
 use std::time::Instant;
