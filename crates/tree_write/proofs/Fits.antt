@@ -102,7 +102,7 @@ pub record Counting (ns : List ℕ) (p n count j : ℕ) : Type 0 where
 pub counting-start : (ns : List ℕ) (p n : ℕ) → Counting ns p n 0 1
 counting-start ns p n = record { low = omega arith; few = omega arith; run = omega arith }
 
-count-cut : (ns : List ℕ) (p n j : ℕ) → j < n → childCount ns p (n - j) j ≡ pick (isChild ns p j) 1 0 + childCount ns p (n - (j + 1)) (j + 1)
+pub count-cut : (ns : List ℕ) (p n j : ℕ) → j < n → childCount ns p (n - j) j ≡ pick (isChild ns p j) 1 0 + childCount ns p (n - (j + 1)) (j + 1)
 unfolding childCount
 count-cut ns p n j h = let z : n - j ≡ suc (n - (j + 1)) = omega arith in rw z
 

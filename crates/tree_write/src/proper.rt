@@ -1,8 +1,13 @@
 // Whether a node table is proper.
+ghost use mathlib.Core.Bool.{true};
 ghost use mathlib.Core.Path.{_≡_};
-ghost use Prim.Native.Nat.{_-_};
+ghost use Prim.Native.Nat.{_-_, _<_};
+ghost use Rattle.laws.specs.Pick.{pick};
 ghost use Rattle.node.specs.Store.{nodesIn};
 ghost use Rattle.tree_write.specs.Proper.{parentFits, countFits, holdsNone, nameFits, climbs, nodeFits, childCount, kidsFit, nodesFit, allKidsFit, isProper};
+ghost use Rattle.walk_order.specs.Walk.{walks};
+ghost use Rattle.tree_write.specs.Walked.{Seen};
+use siblings::Rising;
 use slices::Ends;
 
 // The deepest level of a proper table.
@@ -107,8 +112,8 @@ fn child_count(nodes: &[u8], p: usize) -> u64
     count
 }
 
-// Whether node i has as many children as it says, and their names differ.
-fn kids_fit(nodes: &[u8], names: &[u8], i: usize) -> bool
+// Whether node i has as many children as it says, and their names differ, by passes over the whole table.
+fn table_kids_fit(nodes: &[u8], names: &[u8], i: usize) -> bool
     ensures { λ r. ⌜ r ≡ kidsFit (now (nodes .entry)) (now (names .entry)) i ⌝ }
 {
     let n = nodes.len() / node::NODE_SIZE;
@@ -118,6 +123,71 @@ fn kids_fit(nodes: &[u8], names: &[u8], i: usize) -> bool
         return siblings::siblings_differ(names, nodes, i as u64, 1, n);
     }
     false
+}
+
+fn either(a: bool, b: bool) -> bool
+    ensures { λ r. ⌜ r ≡ pick a true b ⌝ }
+{
+    if a { true } else { b }
+}
+
+// A node's children: how many, and whether they stand in byte order or in git's own order, so that their names differ.
+pub struct WalkedKids {
+    pub count: u64,
+    pub rising: bool,
+}
+
+// The children of p in a table in walk order, each compared with the one before it.
+fn walked_kids(nodes: &[u8], names: &[u8], p: usize) -> WalkedKids
+    requires { ⌜ (walks 64 (now nodes) ≡ true) × (p < nodesIn (now nodes)) ⌝ }
+    ensures { λ r. ⌜ Seen (now (nodes .entry)) (now (names .entry)) p r ⌝ }
+{
+    let mut so = Rising {
+        last: p,
+        bytes: true,
+        git: true,
+    };
+    let mut count: u64 = 0;
+    let mut x = p;
+    let mut y = walk_order::next_child(nodes, p, p);
+    while y != 0 {
+        so = siblings::rises(names, nodes, p, so, y);
+        count += 1;
+        x = y;
+        y = walk_order::next_child(nodes, p, x);
+    }
+    let rising = either(so.bytes, so.git);
+    WalkedKids { count, rising }
+}
+
+// The same as table_kids_fit, in a table in walk order: only children in no order that is known are compared in pairs.
+fn walked_kids_fit(nodes: &[u8], names: &[u8], i: usize) -> bool
+    requires { ⌜ (walks 64 (now nodes) ≡ true) × (i < nodesIn (now nodes)) ⌝ }
+    ensures { λ r. ⌜ r ≡ kidsFit (now (nodes .entry)) (now (names .entry)) i ⌝ }
+{
+    let n = nodes.len() / node::NODE_SIZE;
+    let said = node::subtrees(nodes, i);
+    let seen = walked_kids(nodes, names, i);
+    let count = seen.count;
+    let rising = seen.rising;
+    if said == count {
+        if rising {
+            return true;
+        }
+        return siblings::siblings_differ(names, nodes, i as u64, 1, n);
+    }
+    false
+}
+
+// Whether node i has as many children as it says, and their names differ.
+fn kids_fit(nodes: &[u8], names: &[u8], walk: bool, i: usize) -> bool
+    requires { ⌜ (walk ≡ walks 64 (now nodes)) × (i < nodesIn (now nodes)) ⌝ }
+    ensures { λ r. ⌜ r ≡ kidsFit (now (nodes .entry)) (now (names .entry)) i ⌝ }
+{
+    if walk {
+        return walked_kids_fit(nodes, names, i);
+    }
+    table_kids_fit(nodes, names, i)
 }
 
 fn nodes_fit(nodes: &[u8], names: &[u8]) -> bool
@@ -135,14 +205,15 @@ fn nodes_fit(nodes: &[u8], names: &[u8]) -> bool
     true
 }
 
-// Whether every node has as many children as it says, and their names differ: each node's children are looked for in the whole table.
+// Whether every node has as many children as it says, and their names differ.
 fn all_kids_fit(nodes: &[u8], names: &[u8]) -> bool
     ensures { λ r. ⌜ r ≡ allKidsFit (now (nodes .entry)) (now (names .entry)) ⌝ }
 {
+    let walk = walk_order::in_walk_order(nodes);
     let n = nodes.len() / node::NODE_SIZE;
     let mut i: usize = 0;
     while i < n {
-        if kids_fit(nodes, names, i) {
+        if kids_fit(nodes, names, walk, i) {
             i += 1;
         } else {
             return false;

@@ -1,3 +1,4 @@
+-- `tree_write::proper::all_kids_fit` meets its contract. The invariant: the test of the nodes that are left answers what the whole answers. Assumes nothing.
 use Prim.Native.Nat.{_-_}
 use mathlib.Core.Path.{_≡_}
 use Rattle.tree_write.specs.Proper.{allIn, kidsFit}
@@ -5,15 +6,15 @@ use borrow.Author.Needs.{needs}
 use Rattle.tree_write.proofs.Fits.{fits}
 use Rattle.tree_write.proofs.proper.all_kids_fit.Statement.{statement}
 use Rattle.tree_write.proofs.proper.all_kids_fit.Tie as tie
-use Rattle.tree_write.proofs.proper.all_kids_fit.Reads as reads
-use Rattle.tree_write.proofs.proper.all_kids_fit.Lts as lts
-use Rattle.tree_write.proofs.proper.kids_fit.Reads as kids-fit-reads
 
 abbrev Inv-loop : tie.InvT-loop
-Inv-loop nodes names n i₀ i = allIn (kidsFit nodes names) (n - i) i ≡ allIn (kidsFit nodes names) n 0
+Inv-loop nodes names walk n i₀ i = allIn (kidsFit nodes names) (n - i) i ≡ allIn (kidsFit nodes names) n 0
 
 abbrev μ-loop : tie.MeasureT-loop
-μ-loop nodes names n i₀ i = n - i
+μ-loop nodes names walk n i₀ i = n - i
+
+in-walk-order-requires : tie.Need-in-walk-order-requires Inv-loop μ-loop
+in-walk-order-requires c κs = search (fits, needs)
 
 loop-holds : tie.Need-loop-holds Inv-loop μ-loop
 loop-holds c = search (fits, needs)
@@ -42,6 +43,7 @@ all-kids-fit-spec =
     (tie.spec
     Inv-loop
     μ-loop
+    in-walk-order-requires
     loop-holds
     kids-fit-requires
     add-i
