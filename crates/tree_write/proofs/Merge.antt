@@ -13,7 +13,7 @@ use Rattle.laws.specs.Pick.{pick}
 use Rattle.laws.specs.Tests.{lt-or-ge, tri, Same, same, differs, same?}
 use Rattle.node.specs.Store.{nodesIn, parentAt}
 use Rattle.walk_order.specs.Walk.{walks, nextChild}
-use Rattle.walk_order.specs.Child.{Next, next-found, next-first, child-behind}
+use Rattle.walk_order.specs.Child.{Next, next-found, next-first, child-behind, is-walk}
 use Rattle.tree_write.specs.declared.runs.Runs.{Runs}
 use Rattle.tree_write.specs.Order.{before, false-true, before-not, before-trans, before-total}
 use Rattle.tree_write.specs.Tree.{after, ahead, nextKid}
@@ -23,9 +23,6 @@ use Rattle.tree_write.specs.Runs.{goesOn, follow, Run, begins, goes, Hea
 zero-or : (m : ℕ) → (m ≡ 0) ⊎ (m ≡ 0 → ⊥)
 zero-or zero = inl refl
 zero-or (suc m) = inr (λ e. omega arith)
-
-pub is-walk : (ns : List ℕ) (t : Bool) → t ≡ walks 64 ns → t ≡ true → walks 64 ns ≡ true
-is-walk ns t e h = sym e ∙ h
 
 -- ---- a run
 

@@ -11,7 +11,6 @@ ghost use Rattle.walk_order.specs.Walk.{walks};
 ghost use Rattle.tree_write.specs.Order.{before};
 ghost use Rattle.tree_write.specs.Tree.{countBytes, frontBytes, numberBytes, idBytes, headBytes, after, ahead, better, nextKid, nodeBytes, treeBytes, putFit};
 
-pub mod proper;
 mod runs;
 
 // The deepest level that is written.

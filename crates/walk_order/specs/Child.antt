@@ -14,7 +14,7 @@ use Rattle.laws.specs.Tests.{lt-or-ge, Less, less, not-less, less?, Same, same,
 use Rattle.node.specs.Store.{nodesIn, parentAt}
 use Rattle.walk_order.specs.Walk.{climbsTo, walksFrom, walks, childFrom, nextChild}
 
-false-true : false ≡ true → ⊥
+pub false-true : false ≡ true → ⊥
 false-true e = let z : _≡_ {A = ℕ} 0 1 = cc in omega arith
 
 -- ---- what stands above a node
@@ -67,6 +67,10 @@ each-walks limit ns (suc k) j h i l m =
   where
     equal : i ≤ j → j ≡ i
     equal q = omega arith
+
+-- where the test says so, the table is in walk order
+pub is-walk : (ns : List ℕ) (t : Bool) → t ≡ walks 64 ns → t ≡ true → walks 64 ns ≡ true
+is-walk ns t e h = sym e ∙ h
 
 module _ (limit : ℕ) (ns : List ℕ) (w : walks limit ns ≡ true) where
   reached : (i : ℕ) → 0 < i → i < nodesIn ns → climbsTo ns limit (i - 1) (parentAt ns i) ≡ true
