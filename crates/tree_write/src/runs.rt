@@ -8,7 +8,7 @@ ghost use Rattle.walk_order.specs.Walk.{walks};
 ghost use Rattle.tree_write.specs.Tree.{nextKid};
 ghost use Rattle.tree_write.specs.Runs.{goesOn, follow, firstOf, Least, Moved, Stepped, Ready};
 
-// Names of more lengths than this are not known in one folder.
+// The most runs that are kept; the children of a folder that has more are found by passes over the table.
 const MOST_RUNS: usize = 64;
 
 // The runs whose children are not all passed: the first child left of each, or 0. Not quick where nothing is known of the heads.

@@ -1,3 +1,4 @@
+-- `proper::table_kids_fit` meets its contract. Assumes nothing.
 use Rattle.proper.proofs.Fits.{fits}
 use borrow.Author.Needs.{needs}
 use Rattle.proper.proofs.table_kids_fit.Statement.{statement}

@@ -1,3 +1,4 @@
+-- `proper::walked_kids_fit` meets its contract. Assumes nothing.
 use Rattle.proper.proofs.Walked.{walked-laws}
 use borrow.Author.Needs.{needs}
 use Rattle.proper.proofs.walked_kids_fit.Statement.{statement}

@@ -1,3 +1,4 @@
+-- `tree_write::put_tree` meets its contract. Assumes nothing.
 use native.Mathlib.Omega.{arith}
 use Rattle.tree_write.proofs.Laws.{tree-laws, tree-fits, tree-done}
 use borrow.Author.Needs.{needs}

@@ -1,3 +1,4 @@
+-- `tree_write::runs::next` meets its contract: the least head is the next child, by `ready-next`. Assumes nothing.
 use Rattle.tree_write.proofs.Merge.{runs-laws}
 use borrow.Author.Needs.{needs}
 use Rattle.tree_write.proofs.runs.next.Statement.{statement}

@@ -1,3 +1,4 @@
+-- `tree_write::runs::step` meets its contract. Assumes nothing.
 use Rattle.tree_write.proofs.Merge.{runs-laws}
 use borrow.Author.Needs.{needs}
 use Rattle.tree_write.proofs.runs.step.Statement.{statement}
