@@ -71,7 +71,7 @@ fn tree_fits(nodes: &[u8], names: &[u8], writes: bool) -> bool
     ensures { λ r. ⌜ r ≡ treeFits 64 (now (nodes .entry)) (now (names .entry)) writes ⌝ }
 {
     if writes {
-        return tree_write::proper::is_proper(nodes, names);
+        return proper::is_proper(nodes, names);
     }
     true
 }
