@@ -1,0 +1,87 @@
+//! Finds the static library, or has it built: `SPARROWPIVOT_LIB_DIR` names the folder of an archive that is there
+//! already; without it `rt`, Rattle's command, proves and builds it from the crates of this repository.
+use std::path::{Path, PathBuf};
+use std::process::{exit, Command};
+
+const ARCHIVE: &str = "libsparrowpivot.a";
+
+fn main() {
+    println!("cargo:rerun-if-changed=build.rs");
+    println!("cargo:rerun-if-env-changed=SPARROWPIVOT_LIB_DIR");
+    let folder = match std::env::var_os("SPARROWPIVOT_LIB_DIR") {
+        Some(given) => given_folder(PathBuf::from(given)),
+        None => built_folder(),
+    };
+    println!("cargo:rerun-if-changed={}", folder.join(ARCHIVE).display());
+    println!("cargo:rustc-link-search=native={}", folder.display());
+    println!("cargo:rustc-link-lib=static=sparrowpivot");
+}
+
+fn target_is(what: &str, value: &str) -> bool {
+    std::env::var(format!("CARGO_CFG_TARGET_{what}")).is_ok_and(|v| v == value)
+}
+
+/// The folder that the caller names. It must hold the archive.
+fn given_folder(folder: PathBuf) -> PathBuf {
+    if !folder.is_absolute() {
+        fail("SPARROWPIVOT_LIB_DIR must be an absolute path");
+    }
+    if !folder.join(ARCHIVE).is_file() {
+        fail(&format!(
+            "SPARROWPIVOT_LIB_DIR is {}, which holds no {ARCHIVE}",
+            folder.display()
+        ));
+    }
+    folder
+}
+
+/// The folder in which `rt` puts the archive. What is proved already is not proved again.
+fn built_folder() -> PathBuf {
+    if !target_is("ARCH", "x86_64") || !target_is("OS", "linux") {
+        fail("the static library that `rt` builds links into programs for x86-64 Linux only");
+    }
+    let Some(repository) = Path::new(env!("CARGO_MANIFEST_DIR")).parent() else {
+        fail("host/ stands in no folder");
+    };
+    for part in ["crates", "crates.txt"] {
+        println!("cargo:rerun-if-changed={}", repository.join(part).display());
+    }
+    let built = rt(repository, &["staticlib", "sparrowpivot"]).or_else(|_| {
+        rt(repository, &["check", "sparrowpivot"]).and_then(|()| rt(repository, &["staticlib", "sparrowpivot"]))
+    });
+    if let Err(why) = built {
+        fail(&why);
+    }
+    repository.join("target/staticlib")
+}
+
+/// Runs `rt` with these words. The error says what is missing, or what `rt` said.
+fn rt(repository: &Path, words: &[&str]) -> Result<(), String> {
+    let said = Command::new("rt")
+        .args(words)
+        .current_dir(repository)
+        .output()
+        .map_err(|why| {
+            format!(
+                "the static library is not there, and `rt` cannot build it ({why}).\n\
+             Either put Rattle's command `rt` on the PATH, or set SPARROWPIVOT_LIB_DIR to the folder of {ARCHIVE}"
+            )
+        })?;
+    if said.status.success() {
+        return Ok(());
+    }
+    let (out, err) = (
+        String::from_utf8_lossy(&said.stdout),
+        String::from_utf8_lossy(&said.stderr),
+    );
+    Err(format!(
+        "`rt {}` failed ({}):\n{out}{err}",
+        words.join(" "),
+        said.status
+    ))
+}
+
+fn fail(why: &str) -> ! {
+    eprintln!("sparrowpivot: {why}");
+    exit(1)
+}

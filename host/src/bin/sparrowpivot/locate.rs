@@ -1,0 +1,65 @@
+//! The index of the repository that one stands in, found as git finds it.
+use std::ffi::{OsStr, OsString};
+use std::os::unix::ffi::OsStrExt;
+use std::path::{Path, PathBuf};
+
+/// Where the index should be. The error says that there is no repository, or what is wrong with its `.git`.
+pub fn locate() -> Result<PathBuf, String> {
+    let here = std::env::current_dir().map_err(|why| format!("the current folder: {why}"))?;
+    let (index, folder) = (set("GIT_INDEX_FILE"), set("GIT_DIR"));
+    match (index, folder) {
+        // what is not absolute begins at the top of the work tree
+        (Some(index), None) => Ok(nearest(&here)?.map_or(here, |found| found.top).join(index)),
+        (Some(index), Some(_)) => Ok(set("GIT_WORK_TREE").map_or(here, PathBuf::from).join(index)),
+        (None, Some(folder)) => Ok(Path::new(&folder).join("index")),
+        (None, None) => match nearest(&here)? {
+            Some(found) => Ok(found.folder.join("index")),
+            None => Err("there is no Git repository here or above: name an index file".into()),
+        },
+    }
+}
+
+/// A variable that is there and not empty.
+fn set(name: &str) -> Option<OsString> {
+    std::env::var_os(name).filter(|value| !value.is_empty())
+}
+
+/// A work tree: the folder at its top, and the one in which git keeps its index.
+struct Found {
+    top: PathBuf,
+    folder: PathBuf,
+}
+
+/// The nearest repository, from a folder upwards, but in no folder that GIT_CEILING_DIRECTORIES names.
+fn nearest(here: &Path) -> Result<Option<Found>, String> {
+    let named = std::env::var_os("GIT_CEILING_DIRECTORIES").unwrap_or_default();
+    let ceilings: Vec<PathBuf> = std::env::split_paths(&named).collect();
+    for top in here
+        .ancestors()
+        .take_while(|top| *top == here || !ceilings.iter().any(|ceiling| ceiling == top))
+    {
+        let git = top.join(".git");
+        if git.join("HEAD").exists() {
+            return Ok(Some(Found {
+                top: top.into(),
+                folder: git,
+            }));
+        }
+        if git.is_file() {
+            return Ok(Some(Found {
+                top: top.into(),
+                folder: top.join(pointed_to(&git)?),
+            }));
+        }
+    }
+    Ok(None)
+}
+
+/// What a `.git` that is a file points to, as in further work trees and in submodules: `gitdir: FOLDER`.
+fn pointed_to(git: &Path) -> Result<PathBuf, String> {
+    let text = std::fs::read(git).map_err(|why| format!("{}: {why}", git.display()))?;
+    let line = text
+        .strip_prefix(b"gitdir: ")
+        .ok_or_else(|| format!("{}: no line `gitdir: FOLDER`", git.display()))?;
+    Ok(Path::new(OsStr::from_bytes(line.trim_ascii_end())).into())
+}
