@@ -2,6 +2,7 @@
 //! already; without it `rt`, Rattle's command, proves and builds it from the crates of this repository.
 use std::path::{Path, PathBuf};
 use std::process::{exit, Command};
+use std::time::SystemTime;
 
 const ARCHIVE: &str = "libsparrowpivot.a";
 
@@ -14,7 +15,6 @@ fn main() {
     };
     println!("cargo:rerun-if-changed={}", folder.join(ARCHIVE).display());
     println!("cargo:rustc-link-search=native={}", folder.display());
-    println!("cargo:rustc-link-lib=static=sparrowpivot");
 }
 
 fn target_is(what: &str, value: &str) -> bool {
@@ -27,15 +27,12 @@ fn given_folder(folder: PathBuf) -> PathBuf {
         fail("SPARROWPIVOT_LIB_DIR must be an absolute path");
     }
     if !folder.join(ARCHIVE).is_file() {
-        fail(&format!(
-            "SPARROWPIVOT_LIB_DIR is {}, which holds no {ARCHIVE}",
-            folder.display()
-        ));
+        fail(&format!("SPARROWPIVOT_LIB_DIR is {}, which holds no {ARCHIVE}", folder.display()));
     }
     folder
 }
 
-/// The folder in which `rt` puts the archive. What is proved already is not proved again.
+/// The folder in which `rt` puts the archive. One that is newer than all it is made of is taken as it is.
 fn built_folder() -> PathBuf {
     if !target_is("ARCH", "x86_64") || !target_is("OS", "linux") {
         fail("the static library that `rt` builds links into programs for x86-64 Linux only");
@@ -43,8 +40,14 @@ fn built_folder() -> PathBuf {
     let Some(repository) = Path::new(env!("CARGO_MANIFEST_DIR")).parent() else {
         fail("host/ stands in no folder");
     };
-    for part in ["crates", "crates.txt"] {
-        println!("cargo:rerun-if-changed={}", repository.join(part).display());
+    let parts = ["crates", "crates.txt"].map(|part| repository.join(part));
+    for part in &parts {
+        println!("cargo:rerun-if-changed={}", part.display());
+    }
+    let folder = repository.join("target/staticlib");
+    let archive = folder.join(ARCHIVE).metadata().and_then(|archive| archive.modified());
+    if archive.is_ok_and(|made| parts.iter().all(|part| is_older(part, made))) {
+        return folder;
     }
     let built = rt(repository, &["staticlib", "sparrowpivot"]).or_else(|_| {
         rt(repository, &["check", "sparrowpivot"]).and_then(|()| rt(repository, &["staticlib", "sparrowpivot"]))
@@ -52,33 +55,30 @@ fn built_folder() -> PathBuf {
     if let Err(why) = built {
         fail(&why);
     }
-    repository.join("target/staticlib")
+    folder
+}
+
+/// Whether a file, or a folder with all that is in it, was last changed before a time.
+fn is_older(path: &Path, than: SystemTime) -> bool {
+    let changed = path.metadata().and_then(|part| part.modified());
+    let in_folder =
+        || path.read_dir().is_ok_and(|mut all| all.all(|one| one.is_ok_and(|one| is_older(&one.path(), than))));
+    changed.is_ok_and(|changed| changed < than) && (!path.is_dir() || in_folder())
 }
 
 /// Runs `rt` with these words. The error says what is missing, or what `rt` said.
 fn rt(repository: &Path, words: &[&str]) -> Result<(), String> {
-    let said = Command::new("rt")
-        .args(words)
-        .current_dir(repository)
-        .output()
-        .map_err(|why| {
-            format!(
-                "the static library is not there, and `rt` cannot build it ({why}).\n\
+    let said = Command::new("rt").args(words).current_dir(repository).output().map_err(|why| {
+        format!(
+            "the static library is not there, and `rt` cannot build it ({why}).\n\
              Either put Rattle's command `rt` on the PATH, or set SPARROWPIVOT_LIB_DIR to the folder of {ARCHIVE}"
-            )
-        })?;
+        )
+    })?;
     if said.status.success() {
         return Ok(());
     }
-    let (out, err) = (
-        String::from_utf8_lossy(&said.stdout),
-        String::from_utf8_lossy(&said.stderr),
-    );
-    Err(format!(
-        "`rt {}` failed ({}):\n{out}{err}",
-        words.join(" "),
-        said.status
-    ))
+    let (out, err) = (String::from_utf8_lossy(&said.stdout), String::from_utf8_lossy(&said.stderr));
+    Err(format!("`rt {}` failed ({}):\n{out}{err}", words.join(" "), said.status))
 }
 
 fn fail(why: &str) -> ! {

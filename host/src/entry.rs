@@ -119,25 +119,8 @@ impl Stat {
     fn of(values: ffi::Values, size: u64) -> Stat {
         // each is a field of 32 bits in the file
         let [cs, cn, ms, mn, dev, ino, uid, gid] = values.map(|v| v as u32);
-        let (ctime, mtime) = (
-            Time {
-                seconds: cs,
-                nanoseconds: cn,
-            },
-            Time {
-                seconds: ms,
-                nanoseconds: mn,
-            },
-        );
-        Stat {
-            ctime,
-            mtime,
-            dev,
-            ino,
-            uid,
-            gid,
-            size: size as u32,
-        }
+        let (ctime, mtime) = (Time { seconds: cs, nanoseconds: cn }, Time { seconds: ms, nanoseconds: mn });
+        Stat { ctime, mtime, dev, ino, uid, gid, size: size as u32 }
     }
 }
 
@@ -193,19 +176,12 @@ pub struct Entries<'a> {
 
 impl<'a> Entries<'a> {
     pub(crate) fn of(records: &'a [u8], paths: &'a [u8]) -> Entries<'a> {
-        Entries {
-            records,
-            paths,
-            left: 0..records.len() / ffi::RECORD_SIZE,
-        }
+        Entries { records, paths, left: 0..records.len() / ffi::RECORD_SIZE }
     }
 
     /// How many entries come first whose paths pass a test, if all that pass it come first.
     pub(crate) fn split(&self, passes: impl Fn(&[u8]) -> bool) -> usize {
-        let Range {
-            start: mut low,
-            end: mut high,
-        } = self.left;
+        let Range { start: mut low, end: mut high } = self.left;
         while low < high {
             let middle = low.saturating_add(high.saturating_sub(low) / 2);
             match Entry::of(self.records, self.paths, middle) {

@@ -91,9 +91,7 @@ impl Refusal {
             6 => Refusal::NoEntryRoom { entry: value },
             7 => Refusal::NotFilled { place: value },
             // a signature is four bytes, told as one big-endian number
-            8 => Refusal::Mandatory {
-                signature: (value as u32).to_be_bytes(),
-            },
+            8 => Refusal::Mandatory { signature: (value as u32).to_be_bytes() },
             9 => Refusal::TooDeep,
             10 => Refusal::NoNodeRoom,
             11 => Refusal::NoStage,

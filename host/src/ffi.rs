@@ -99,17 +99,7 @@ pub(crate) fn read(file: &[u8], records: &mut [u8], paths: &mut [u8], nodes: &mu
     let (r, p, n) = (records.as_mut_ptr(), paths.as_mut_ptr(), nodes.as_mut_ptr());
     // Sound: the three stores are lent mutably, so they overlap neither each other nor the file; `v` points to eight numbers.
     answer(|v| unsafe {
-        sparrowpivot_read(
-            file.as_ptr(),
-            file.len(),
-            r,
-            records.len(),
-            p,
-            paths.len(),
-            n,
-            nodes.len(),
-            v,
-        )
+        sparrowpivot_read(file.as_ptr(), file.len(), r, records.len(), p, paths.len(), n, nodes.len(), v)
     })
 }
 
@@ -124,17 +114,7 @@ pub(crate) fn entries(
     let (r, p) = (records.as_mut_ptr(), paths.as_mut_ptr());
     // Sound: the two stores are lent mutably, so they overlap neither each other nor the file; `v` points to eight numbers.
     answer(|v| unsafe {
-        sparrowpivot_entries(
-            file.as_ptr(),
-            file.len(),
-            version,
-            count,
-            r,
-            records.len(),
-            p,
-            paths.len(),
-            v,
-        )
+        sparrowpivot_entries(file.as_ptr(), file.len(), version, count, r, records.len(), p, paths.len(), v)
     })
 }
 
@@ -214,13 +194,7 @@ pub(crate) fn write(
     options: u32,
     out: &mut [u8],
 ) -> Result<Values, Refusal> {
-    let (r, p, n, m, o) = (
-        records.as_ptr(),
-        paths.as_ptr(),
-        nodes.as_ptr(),
-        names.as_ptr(),
-        out.as_mut_ptr(),
-    );
+    let (r, p, n, m, o) = (records.as_ptr(), paths.as_ptr(), nodes.as_ptr(), names.as_ptr(), out.as_mut_ptr());
     let (rs, ps, ns, ms, os) = (records.len(), paths.len(), nodes.len(), names.len(), out.len());
     // Sound: only `out` is written, which is lent mutably and so overlaps no other; `v` points to eight numbers.
     answer(|v| unsafe { sparrowpivot_write(r, rs, p, ps, n, ns, m, ms, options, o, os, v) })

@@ -66,14 +66,7 @@ impl Index {
         let (values, stores) = stores::read(&file, most_path_bytes)?;
         let [version, sparse, tree, ..] = values;
         let (sparse, tree) = (sparse == 1, tree == 1);
-        Ok(Index {
-            file,
-            stores,
-            version: version as u32,
-            sparse,
-            tree,
-            order: OnceLock::new(),
-        })
+        Ok(Index { file, stores, version: version as u32, sparse, tree, order: OnceLock::new() })
     }
 
     /// The bytes of the file.
@@ -143,9 +136,7 @@ impl Index {
     /// Whether each entry is strictly after the one before, by the bytes of its path and then by stage. The refusal
     /// names the first that is not. What is found once is kept.
     pub fn check(&self) -> Result<(), Refusal> {
-        *self
-            .order
-            .get_or_init(|| ffi::check_order(&self.stores.records, &self.stores.paths))
+        *self.order.get_or_init(|| ffi::check_order(&self.stores.records, &self.stores.paths))
     }
 
     /// The tree, if there is one that is well-formed.
@@ -210,10 +201,7 @@ impl Index {
 impl std::fmt::Debug for Index {
     fn fmt(&self, f: &mut std::fmt::Formatter<'_>) -> std::fmt::Result {
         let mut shown = f.debug_struct("Index");
-        shown
-            .field("version", &self.version)
-            .field("entries", &self.len())
-            .field("sparse", &self.sparse);
+        shown.field("version", &self.version).field("entries", &self.len()).field("sparse", &self.sparse);
         shown.field("nodes", &self.tree().map(|tree| tree.len())).finish()
     }
 }

@@ -56,24 +56,14 @@ fn read_into(file: &[u8], rooms: Rooms) -> Result<Result<(Values, Stores), Refus
         cut(&mut records, (entries as usize).saturating_mul(RECORD_SIZE));
         cut(&mut paths, path_bytes as usize);
         cut(&mut nodes, (nodes_used as usize).saturating_mul(NODE_SIZE));
-        (
-            values,
-            Stores {
-                records,
-                paths,
-                nodes,
-                malformed_tree,
-            },
-        )
+        (values, Stores { records, paths, nodes, malformed_tree })
     }))
 }
 
 /// So many bytes, or the error that they cannot be had.
 pub(crate) fn store(bytes: usize, fill: u8) -> Result<Vec<u8>, Error> {
     let mut store = Vec::new();
-    store
-        .try_reserve_exact(bytes)
-        .map_err(|_| Error::OutOfMemory { bytes })?;
+    store.try_reserve_exact(bytes).map_err(|_| Error::OutOfMemory { bytes })?;
     store.resize(bytes, fill);
     Ok(store)
 }
@@ -106,14 +96,8 @@ impl Rooms {
             _ => in_file,
         };
         // a folder of few files is common, one of none is not
-        let nodes = (records / 2)
-            .saturating_add(64)
-            .min((in_file / SHORTEST_NODE).saturating_add(1));
-        Rooms {
-            records,
-            path_bytes: path_bytes.min(most_path_bytes),
-            nodes,
-        }
+        let nodes = (records / 2).saturating_add(64).min((in_file / SHORTEST_NODE).saturating_add(1));
+        Rooms { records, path_bytes: path_bytes.min(most_path_bytes), nodes }
     }
 }
 

@@ -57,10 +57,7 @@ impl<'a> Tree<'a> {
 
     /// The nodes, in the order of the file.
     pub fn nodes(&self) -> Nodes<'a> {
-        Nodes {
-            tree: *self,
-            left: 0..self.len(),
-        }
+        Nodes { tree: *self, left: 0..self.len() }
     }
 
     /// Node i, from 0 on.
@@ -82,12 +79,7 @@ impl<'a> Tree<'a> {
     pub fn path(&self, i: usize) -> Vec<u8> {
         let mut names = Vec::new();
         let mut at = self.node(i);
-        while let Some(Node {
-            name,
-            parent: Some(above),
-            ..
-        }) = at
-        {
+        while let Some(Node { name, parent: Some(above), .. }) = at {
             names.push(name);
             at = self.node(above);
         }
@@ -138,11 +130,7 @@ impl fmt::Display for TreeFault {
         match self {
             TreeFault::Malformed => f.write_str("malformed, and read as none"),
             TreeFault::Count { folder, says, there } => {
-                write!(
-                    f,
-                    "{there} entries lie below \"{}\", which says {says}",
-                    folder.escape_ascii()
-                )
+                write!(f, "{there} entries lie below \"{}\", which says {says}", folder.escape_ascii())
             }
         }
     }

@@ -18,11 +18,7 @@ pub struct WriteOptions {
 impl Default for WriteOptions {
     /// The tree, no EOIE, and the hash.
     fn default() -> WriteOptions {
-        WriteOptions {
-            tree: true,
-            eoie: false,
-            zero_trailer: false,
-        }
+        WriteOptions { tree: true, eoie: false, zero_trailer: false }
     }
 }
 
@@ -55,17 +51,8 @@ impl Index {
     }
 
     fn write_into(&self, options: WriteOptions, out: &mut [u8]) -> Result<Values, Refusal> {
-        let bits = [
-            self.tree().is_some(),
-            options.tree,
-            options.eoie,
-            self.is_sparse(),
-            options.zero_trailer,
-        ];
-        let sum = bits
-            .iter()
-            .rev()
-            .fold(0u32, |sum, bit| sum.wrapping_shl(1) | u32::from(*bit));
+        let bits = [self.tree().is_some(), options.tree, options.eoie, self.is_sparse(), options.zero_trailer];
+        let sum = bits.iter().rev().fold(0u32, |sum, bit| sum.wrapping_shl(1) | u32::from(*bit));
         let (records, paths, nodes) = self.tables();
         ffi::write(records, paths, nodes, self.as_bytes(), sum, out)
     }

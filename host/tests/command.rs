@@ -22,10 +22,7 @@ fn ends(folder: &Path, words: &[&str], status: i32) -> Output {
 fn tells(folder: &Path, words: &[&str], status: i32, told: &str) {
     let output = ends(folder, words, status);
     let said = String::from_utf8(output.stderr).unwrap();
-    assert!(
-        said.starts_with("sparrowpivot: ") && said.contains(told),
-        "{words:?}: {said}"
-    );
+    assert!(said.starts_with("sparrowpivot: ") && said.contains(told), "{words:?}: {said}");
     assert!(output.stdout.is_empty(), "{words:?}");
 }
 
@@ -44,10 +41,7 @@ fn wrong_usage_is_status_2() {
         (vec!["find"], "find asks for PATH"),
         (vec!["find", "a", QUARREL, "b"], "b is one word too many"),
         (vec!["find", "a", "--stage"], "--stage asks for a number"),
-        (
-            vec!["find", "a", "--stage", "two"],
-            "--stage asks for a number, not two",
-        ),
+        (vec!["find", "a", "--stage", "two"], "--stage asks for a number, not two"),
         (vec!["find", "a", "--stage", "-1"], "--stage asks for a number, not -1"),
         (vec!["rewrite"], "rewrite asks for OUT"),
     ] {
@@ -64,14 +58,8 @@ fn refused_and_not_found_are_status_1() {
         (vec!["list", "."], ".: "),
         (vec!["list", "short"], "short: refused 1: the file has under 32 bytes"),
         (vec!["find", "exhibit", QUARREL], "there is no exhibit\n"),
-        (
-            vec!["find", "README", "--stage", "1", QUARREL],
-            "there is no README at stage 1\n",
-        ),
-        (
-            vec!["find", "README", "--stage", "4", QUARREL],
-            "refused 11: there is no stage above 3",
-        ),
+        (vec!["find", "README", "--stage", "1", QUARREL], "there is no README at stage 1\n"),
+        (vec!["find", "README", "--stage", "4", QUARREL], "refused 11: there is no stage above 3"),
         (vec!["list"], "there is no Git repository here or above"),
     ] {
         tells(&here, &words, 1, told);
@@ -81,12 +69,8 @@ fn refused_and_not_found_are_status_1() {
 #[test]
 fn done_is_status_0() {
     let here = folder("done");
-    for words in [
-        vec!["list", QUARREL],
-        vec!["find", "README", QUARREL],
-        vec!["tree", SETTLED],
-        vec!["check", SETTLED],
-    ] {
+    for words in [vec!["list", QUARREL], vec!["find", "README", QUARREL], vec!["tree", SETTLED], vec!["check", SETTLED]]
+    {
         let output = ends(&here, &words, 0);
         assert!(!output.stdout.is_empty() && output.stderr.is_empty(), "{words:?}");
     }
@@ -102,23 +86,10 @@ fn help_and_version() {
     assert_eq!(ends(&here, &["list", "--help"], 0).stdout, help.as_bytes());
     let version = format!("sparrowpivot {}\n", env!("CARGO_PKG_VERSION"));
     assert_eq!(ends(&here, &["--version"], 0).stdout, version.as_bytes());
-    let page = fs::read_to_string("sparrowpivot.1")
-        .unwrap()
-        .replace("\\-", "-")
-        .replace("\\(ga", "`");
-    for word in [
-        "list",
-        "find",
-        "tree",
-        "check",
-        "rewrite",
-        "-z",
-        "--json",
-        "--stage",
-        "--no-tree",
-        "--zero-trailer",
-        "--drop",
-    ] {
+    let page = fs::read_to_string("sparrowpivot.1").unwrap().replace("\\-", "-").replace("\\(ga", "`");
+    for word in
+        ["list", "find", "tree", "check", "rewrite", "-z", "--json", "--stage", "--no-tree", "--zero-trailer", "--drop"]
+    {
         assert!(help.contains(&format!(" {word}")) && page.contains(word), "{word}");
     }
     assert!(help.lines().all(|line| line.len() < 80));
@@ -139,10 +110,7 @@ fn standard_input_and_files_are_alike() {
     let named = ends(Path::new("."), &["list", QUARREL], 0).stdout;
     assert_eq!(over(&["list", "-"], &bytes, 0).stdout, named);
     let said = over(&["list", "-"], b"", 1).stderr;
-    assert_eq!(
-        said,
-        b"sparrowpivot: standard input: refused 1: the file has under 32 bytes\n"
-    );
+    assert_eq!(said, b"sparrowpivot: standard input: refused 1: the file has under 32 bytes\n");
 }
 
 #[test]
@@ -171,25 +139,11 @@ fn work_trees_and_submodules_have_their_own() {
 
     let from = repo.top.to_str().unwrap();
     let above = Repo::new("above");
-    above.git(&[
-        "-c",
-        "protocol.file.allow=always",
-        "submodule",
-        "--quiet",
-        "add",
-        from,
-        "module",
-    ]);
+    above.git(&["-c", "protocol.file.allow=always", "submodule", "--quiet", "add", from, "module"]);
     let module = above.top.join("module");
     assert!(module.join(".git").is_file());
-    assert_eq!(
-        ends(&module.join("day2"), &["list"], 0).stdout,
-        repo.git(&["ls-files", "--stage"])
-    );
-    assert_eq!(
-        ends(&above.top, &["list"], 0).stdout,
-        above.git(&["ls-files", "--stage"])
-    );
+    assert_eq!(ends(&module.join("day2"), &["list"], 0).stdout, repo.git(&["ls-files", "--stage"]));
+    assert_eq!(ends(&above.top, &["list"], 0).stdout, above.git(&["ls-files", "--stage"]));
 }
 
 /// GIT_INDEX_FILE and GIT_DIR do what they do for git, also from below the top.
@@ -226,11 +180,7 @@ fn a_broken_pipe_is_quiet() {
     let path = folder("pipe").join("index");
     fs::write(&path, file(2, 5000, &[&entries])).unwrap();
     let mut command = sparrowpivot(Path::new("."));
-    command
-        .arg("list")
-        .arg(&path)
-        .stdout(Stdio::piped())
-        .stderr(Stdio::piped());
+    command.arg("list").arg(&path).stdout(Stdio::piped()).stderr(Stdio::piped());
     let mut child = command.spawn().unwrap();
     drop(child.stdout.take());
     let output = child.wait_with_output().unwrap();
@@ -240,20 +190,10 @@ fn a_broken_pipe_is_quiet() {
 #[test]
 fn an_output_that_cannot_be_written_is_told() {
     let mut command = sparrowpivot(Path::new("."));
-    command
-        .args(["list", QUARREL])
-        .stdout(fs::OpenOptions::new().write(true).open("/dev/full").unwrap());
-    let output = command
-        .stderr(Stdio::piped())
-        .spawn()
-        .unwrap()
-        .wait_with_output()
-        .unwrap();
+    command.args(["list", QUARREL]).stdout(fs::OpenOptions::new().write(true).open("/dev/full").unwrap());
+    let output = command.stderr(Stdio::piped()).spawn().unwrap().wait_with_output().unwrap();
     assert_eq!(output.status.code(), Some(1));
-    assert!(
-        output.stderr.starts_with(b"sparrowpivot: standard output: "),
-        "{output:?}"
-    );
+    assert!(output.stderr.starts_with(b"sparrowpivot: standard output: "), "{output:?}");
 }
 
 #[test]
@@ -281,19 +221,10 @@ fn what_check_says() {
 fn what_check_says_to_programs() {
     let object = |bytes: &[u8], status| json::parse(&over(&["check", "--json", "-"], bytes, status).stdout);
     let sound = object(&fs::read(QUARREL).unwrap(), 0);
-    assert_eq!(
-        (sound.at("sound"), sound.at("entries").number()),
-        (&json::Json::Bool(true), 4)
-    );
-    assert_eq!(
-        (sound.at("trailer").text(), sound.at("order_fault")),
-        ("sha1", &json::Json::Null)
-    );
+    assert_eq!((sound.at("sound"), sound.at("entries").number()), (&json::Json::Bool(true), 4));
+    assert_eq!((sound.at("trailer").text(), sound.at("order_fault")), ("sha1", &json::Json::Null));
     let twice = object(&file(2, 2, &[&entry(b"a"), &entry(b"a")]), 1);
-    assert_eq!(
-        (twice.at("sound"), twice.at("trailer").text()),
-        (&json::Json::Bool(false), "zeros")
-    );
+    assert_eq!((twice.at("sound"), twice.at("trailer").text()), (&json::Json::Bool(false), "zeros"));
     assert!(twice.at("order_fault").text().starts_with("refused 13: entry 1 "));
     let malformed = object(&file(2, 0, &[&extension(b"TREE", b"x")]), 1);
     assert_eq!(malformed.at("tree_fault").text(), "malformed, and read as none");
@@ -304,9 +235,7 @@ fn what_check_says_to_programs() {
 fn nothing_is_found_out_of_order() {
     let bytes = file(2, 3, &[&entry(b"c"), &entry(b"b"), &entry(b"a")]);
     let output = over(&["find", "b", "-"], &bytes, 1);
-    assert!(String::from_utf8(output.stderr)
-        .unwrap()
-        .contains("refused 13: entry 1 "));
+    assert!(String::from_utf8(output.stderr).unwrap().contains("refused 13: entry 1 "));
 }
 
 #[test]
@@ -317,12 +246,7 @@ fn rewriting_replaces_the_file_whole() {
     let old = repo.bytes();
     fs::set_permissions(&index, fs::Permissions::from_mode(0o600)).unwrap();
     fs::write(&lock, "").unwrap();
-    tells(
-        &repo.top,
-        &["rewrite", ".git/index"],
-        1,
-        "index.lock is there: another program is at work on it",
-    );
+    tells(&repo.top, &["rewrite", ".git/index"], 1, "index.lock is there: another program is at work on it");
     assert!(repo.bytes() == old && lock.exists());
     fs::remove_file(&lock).unwrap();
     repo.ours(&["rewrite", "--zero-trailer", ".git/index"]);
@@ -348,22 +272,11 @@ fn rewriting_follows_a_link_and_writes_to_standard_output() {
 #[test]
 fn rewriting_loses_nothing_unasked() {
     let here = folder("lost");
-    tells(
-        &here,
-        &["rewrite", "out", SETTLED],
-        1,
-        "REUC would be lost: say --drop to rewrite without",
-    );
+    tells(&here, &["rewrite", "out", SETTLED], 1, "REUC would be lost: say --drop to rewrite without");
     assert!(!here.join("out").exists() && !here.join("out.lock").exists());
     ends(&here, &["rewrite", "--drop", "out", SETTLED], 0);
-    assert_eq!(
-        ends(&here, &["tree", "out"], 0).stdout,
-        ends(&here, &["tree", SETTLED], 0).stdout
-    );
+    assert_eq!(ends(&here, &["tree", "out"], 0).stdout, ends(&here, &["tree", SETTLED], 0).stdout);
     ends(&here, &["rewrite", "--no-tree", "bare", "out"], 0);
     assert!(ends(&here, &["tree", "bare"], 0).stdout.is_empty());
-    assert_eq!(
-        ends(&here, &["list", "bare"], 0).stdout,
-        ends(&here, &["list", SETTLED], 0).stdout
-    );
+    assert_eq!(ends(&here, &["list", "bare"], 0).stdout, ends(&here, &["list", SETTLED], 0).stdout);
 }

@@ -74,15 +74,8 @@ fn asked(bytes: Vec<u8>) -> u32 {
         let found = index.find(entry.path, entry.stage);
         assert_eq!(found.ok().flatten(), sound.then_some(entry), "{index:?}");
     }
-    assert!(index
-        .find("\0no such path", Stage::Ours)
-        .map_or(true, |found| found.is_none()));
-    let _ = (
-        index.check_tree(),
-        index.trailer(),
-        index.end_of_entries(),
-        format!("{index:?}"),
-    );
+    assert!(index.find("\0no such path", Stage::Ours).map_or(true, |found| found.is_none()));
+    let _ = (index.check_tree(), index.trailer(), index.end_of_entries(), format!("{index:?}"));
     if let Some(tree) = index.tree() {
         for (i, node) in tree.nodes().enumerate() {
             let above = node.parent.map_or(Vec::new(), |parent| tree.path(parent));
@@ -90,12 +83,7 @@ fn asked(bytes: Vec<u8>) -> u32 {
         }
     }
     assert!(
-        index
-            .extensions()
-            .unwrap()
-            .map(|extension| extension.body.len() + 8)
-            .sum::<usize>()
-            < index.as_bytes().len()
+        index.extensions().unwrap().map(|extension| extension.body.len() + 8).sum::<usize>() < index.as_bytes().len()
     );
     written(&index);
     0
@@ -104,13 +92,7 @@ fn asked(bytes: Vec<u8>) -> u32 {
 /// What is written is read back alike.
 fn written(index: &Index) {
     for (tree, eoie, zero_trailer) in [(true, true, false), (false, false, true)] {
-        let bytes = index
-            .write(WriteOptions {
-                tree,
-                eoie,
-                zero_trailer,
-            })
-            .unwrap();
+        let bytes = index.write(WriteOptions { tree, eoie, zero_trailer }).unwrap();
         let again = Index::from_bytes(bytes).unwrap();
         assert!(again.entries().eq(index.entries()) && again.is_sparse() == index.is_sparse());
     }
@@ -125,10 +107,7 @@ fn the_crate_answers() {
         met.insert(asked(damage(&files[turn % files.len()], &mut dice)));
     }
     // all that reading can refuse for damage was met, and files that could be read
-    assert!(
-        [0, 1, 2, 3, 4, 5, 7, 8].iter().all(|number| met.contains(number)),
-        "{met:?}"
-    );
+    assert!([0, 1, 2, 3, 4, 5, 7, 8].iter().all(|number| met.contains(number)), "{met:?}");
     assert!(!met.contains(&6) && !met.contains(&10), "room is made: {met:?}");
 }
 
@@ -171,10 +150,7 @@ fn the_command_answers() {
         );
         let said = String::from_utf8(output.stderr).unwrap();
         let status = output.status.code().expect("no signal ends it");
-        assert!(
-            status < 2 && (said.is_empty() || said.starts_with("sparrowpivot: ")),
-            "{said}"
-        );
+        assert!(status < 2 && (said.is_empty() || said.starts_with("sparrowpivot: ")), "{said}");
         met.insert(status);
     }
     assert_eq!(met, BTreeSet::from([0, 1]));

@@ -8,11 +8,7 @@ fn same_as_git(repo: &Repo) {
     let nul = repo.git(&["ls-files", "--sparse", "--stage", "-z"]);
     assert!(repo.ours(&["list"]) == plain, "list of {:?}", repo.top);
     assert!(repo.ours(&["list", "-z"]) == nul, "list -z of {:?}", repo.top);
-    assert!(
-        listed(&repo.ours(&["list", "--json"])) == nul,
-        "list --json of {:?}",
-        repo.top
-    );
+    assert!(listed(&repo.ours(&["list", "--json"])) == nul, "list --json of {:?}", repo.top);
     assert_eq!(stat_of(repo), git_stat_of(repo));
     repo.ours(&["check"]);
     found(repo, &nul);
@@ -22,11 +18,7 @@ fn same_as_git(repo: &Repo) {
 /// The lines of `list -z`, from those of `list --json`.
 fn listed(text: &[u8]) -> Vec<u8> {
     let line = |entry: &json::Json| {
-        let (mode, id, stage) = (
-            entry.at("mode").text(),
-            entry.at("id").text(),
-            entry.at("stage").number(),
-        );
+        let (mode, id, stage) = (entry.at("mode").text(), entry.at("id").text(), entry.at("stage").number());
         [format!("{mode} {id} {stage}\t").as_bytes(), &entry.bytes("path"), b"\0"].concat()
     };
     json::parse(text).items().iter().flat_map(line).collect()
@@ -36,19 +28,11 @@ fn listed(text: &[u8]) -> Vec<u8> {
 fn stat_of(repo: &Repo) -> Vec<Vec<u64>> {
     let number = |entry: &json::Json, name: &str| entry.at(name).number();
     let row = |entry: &json::Json| {
-        let times = ["ctime", "mtime"]
-            .iter()
-            .flat_map(|time| entry.at(time).items().iter().map(json::Json::number));
-        let rest = ["dev", "ino", "uid", "gid", "size"]
-            .iter()
-            .map(|name| number(entry, name));
+        let times = ["ctime", "mtime"].iter().flat_map(|time| entry.at(time).items().iter().map(json::Json::number));
+        let rest = ["dev", "ino", "uid", "gid", "size"].iter().map(|name| number(entry, name));
         times.chain(rest).collect()
     };
-    json::parse(&repo.ours(&["list", "--json"]))
-        .items()
-        .iter()
-        .map(row)
-        .collect()
+    json::parse(&repo.ours(&["list", "--json"])).items().iter().map(row).collect()
 }
 
 /// The same by `git ls-files --debug`, which prints `name: number` for each.
@@ -88,12 +72,7 @@ fn rewritten(repo: &Repo, nul: &[u8]) {
     let mut git = repo.command(&["ls-files", "--sparse", "--stage", "-z"]);
     git.env("GIT_INDEX_FILE", repo.top.join("anew"));
     let output = run(git, b"");
-    assert!(
-        output.status.success() && output.stdout == nul,
-        "rewrite of {:?}: {:?}",
-        repo.top,
-        output.stderr
-    );
+    assert!(output.status.success() && output.stdout == nul, "rewrite of {:?}: {:?}", repo.top, output.stderr);
     let (old, new) = (repo.ours(&["list", "--json"]), repo.ours(&["list", "--json", "anew"]));
     assert!(old == new, "stat data and flags of {:?}", repo.top);
     assert_eq!(repo.ours(&["tree"]).len(), repo.ours(&["tree", "anew"]).len());
@@ -127,19 +106,11 @@ fn flags_of_version_three() {
     repo.git(&["update-index", "--assume-unchanged", "README"]);
     assert_eq!(repo.bytes()[7], 3);
     same_as_git(&repo);
-    for (path, flag) in [
-        ("new", "intent_to_add"),
-        ("day1/noon", "skip_worktree"),
-        ("README", "assume_valid"),
-    ] {
+    for (path, flag) in [("new", "intent_to_add"), ("day1/noon", "skip_worktree"), ("README", "assume_valid")] {
         let set = |entry: &json::Json| entry.at(flag) == &json::Json::Bool(true);
         let all = json::parse(&repo.ours(&["list", "--json"]));
-        let marked: Vec<Vec<u8>> = all
-            .items()
-            .iter()
-            .filter(|entry| set(entry))
-            .map(|entry| entry.bytes("path"))
-            .collect();
+        let marked: Vec<Vec<u8>> =
+            all.items().iter().filter(|entry| set(entry)).map(|entry| entry.bytes("path")).collect();
         assert_eq!(marked, [path.as_bytes()], "{flag}");
     }
 }
@@ -170,11 +141,7 @@ fn renames_on_both_sides() {
     assert!(!run(repo.command(&["merge", "-q", "other"]), b"").status.success());
     same_as_git(&repo);
     let stages = |path| {
-        String::from_utf8(repo.ours(&["find", path]))
-            .unwrap()
-            .split(' ')
-            .nth(2)
-            .map(|rest| rest[..1].to_string())
+        String::from_utf8(repo.ours(&["find", path])).unwrap().split(' ').nth(2).map(|rest| rest[..1].to_string())
     };
     assert_eq!(
         ["day1/noon", "day1/night", "day1/evening"].map(stages),
@@ -184,21 +151,10 @@ fn renames_on_both_sides() {
 
 #[test]
 fn paths_of_all_bytes() {
-    let mut paths: Vec<Vec<u8>> = (1..=255u8)
-        .filter(|byte| *byte != b'/')
-        .map(|byte| vec![b'x', byte, b'y'])
-        .collect();
+    let mut paths: Vec<Vec<u8>> = (1..=255u8).filter(|byte| *byte != b'/').map(|byte| vec![b'x', byte, b'y']).collect();
     paths.extend(
-        [
-            "caf\u{e9}/\u{540d}",
-            "- a dash",
-            "\"quoted\"\\back",
-            "...",
-            "a ",
-            "%s",
-            " ",
-        ]
-        .map(|path| path.as_bytes().to_vec()),
+        ["caf\u{e9}/\u{540d}", "- a dash", "\"quoted\"\\back", "...", "a ", "%s", " "]
+            .map(|path| path.as_bytes().to_vec()),
     );
     paths.push(b"\x80\xfe\xff".to_vec());
     for (name, version) in [("odd-2", "2"), ("odd-4", "4")] {
@@ -206,9 +162,7 @@ fn paths_of_all_bytes() {
         repo.entries(paths.iter().map(Vec::as_slice));
         repo.git(&["update-index", "--index-version", version]);
         same_as_git(&repo);
-        assert!(String::from_utf8(repo.ours(&["list"]))
-            .unwrap()
-            .contains("\t\"caf\\303\\251/\\345\\220\\215\"\n"));
+        assert!(String::from_utf8(repo.ours(&["list"])).unwrap().contains("\t\"caf\\303\\251/\\345\\220\\215\"\n"));
     }
 }
 
@@ -216,10 +170,8 @@ fn paths_of_all_bytes() {
 fn long_paths() {
     for (name, version) in [("long-2", "2"), ("long-4", "4")] {
         let repo = Repo::new(name);
-        let paths: Vec<Vec<u8>> = [4094, 4095, 4096, 5000]
-            .iter()
-            .map(|n| [vec![b'a'; *n], b"/b".to_vec()].concat())
-            .collect();
+        let paths: Vec<Vec<u8>> =
+            [4094, 4095, 4096, 5000].iter().map(|n| [vec![b'a'; *n], b"/b".to_vec()].concat()).collect();
         repo.entries(paths.iter().map(Vec::as_slice));
         repo.entries([b"b".as_slice()].into_iter());
         repo.git(&["update-index", "--index-version", version]);
@@ -235,9 +187,7 @@ fn a_sparse_index() {
     same_as_git(&repo);
     let lines = String::from_utf8(repo.ours(&["list"])).unwrap();
     assert!(lines.contains("040000 ") && lines.contains("\tday1/\n"), "{lines}");
-    assert!(String::from_utf8(repo.ours(&["check"]))
-        .unwrap()
-        .contains("entries, sparse\n"));
+    assert!(String::from_utf8(repo.ours(&["check"])).unwrap().contains("entries, sparse\n"));
 }
 
 #[test]
@@ -259,10 +209,8 @@ fn thirty_thousand_entries() {
 fn the_tree() {
     let repo = committed("tree");
     let lines = String::from_utf8(repo.ours(&["tree"])).unwrap();
-    let mut ours: Vec<String> = lines
-        .lines()
-        .map(|line| format!("{} {}", &line[..40], line.split('\t').nth(1).unwrap()))
-        .collect();
+    let mut ours: Vec<String> =
+        lines.lines().map(|line| format!("{} {}", &line[..40], line.split('\t').nth(1).unwrap())).collect();
     let listed =
         String::from_utf8(repo.git(&["ls-tree", "-r", "-d", "-t", "HEAD", "--format=%(objectname) %(path)/"])).unwrap();
     let mut git: Vec<String> = listed.lines().map(str::to_string).collect();
@@ -270,10 +218,7 @@ fn the_tree() {
     ours.sort();
     git.sort();
     assert_eq!(ours, git);
-    assert!(
-        lines.contains(" 6 2\t/\n") && lines.contains(" 3 1\tday2/\n"),
-        "{lines}"
-    );
+    assert!(lines.contains(" 6 2\t/\n") && lines.contains(" 3 1\tday2/\n"), "{lines}");
     assert_eq!(tree_by_json(&repo), lines);
 
     repo.file("day2/exhibit/pair", "changed\n");
@@ -283,9 +228,7 @@ fn the_tree() {
         lines.contains("- - 2\t/\n") && lines.contains("- - 0\tday2/exhibit/\n") && lines.contains(" 2 0\tday1/\n"),
         "{lines}"
     );
-    assert!(String::from_utf8(repo.ours(&["check"]))
-        .unwrap()
-        .contains("tree: 4 folders, 3 out of date\n"));
+    assert!(String::from_utf8(repo.ours(&["check"])).unwrap().contains("tree: 4 folders, 3 out of date\n"));
     assert_eq!(tree_by_json(&repo), lines);
 }
 

@@ -6,83 +6,40 @@ use sparrowpivot::{Error, Index, Refusal, Stage};
 /// All refusals with what they carry and say.
 const ALL: [(Refusal, Option<u64>, &str); 17] = [
     (Refusal::ShortFile, None, "refused 1: the file has under 32 bytes"),
-    (
-        Refusal::NoSignature,
-        None,
-        "refused 2: the file does not begin with \"DIRC\"",
-    ),
-    (
-        Refusal::OtherVersion { version: 5 },
-        Some(5),
-        "refused 3: the version is 5, not 2, 3 or 4",
-    ),
-    (
-        Refusal::BadTrailer,
-        None,
-        "refused 4: the last 20 bytes are neither zeros nor the SHA-1 of the rest",
-    ),
+    (Refusal::NoSignature, None, "refused 2: the file does not begin with \"DIRC\""),
+    (Refusal::OtherVersion { version: 5 }, Some(5), "refused 3: the version is 5, not 2, 3 or 4"),
+    (Refusal::BadTrailer, None, "refused 4: the last 20 bytes are neither zeros nor the SHA-1 of the rest"),
     (
         Refusal::NotSpelled { entry: 1 },
         Some(1),
         "refused 5: entry 1 (counted from 0) is not spelled as the format asks",
     ),
-    (
-        Refusal::NoEntryRoom { entry: 7 },
-        Some(7),
-        "refused 6: there is no room for entry 7 (counted from 0)",
-    ),
-    (
-        Refusal::NotFilled { place: 76 },
-        Some(76),
-        "refused 7: the extensions do not fill their space, from byte 76 on",
-    ),
+    (Refusal::NoEntryRoom { entry: 7 }, Some(7), "refused 6: there is no room for entry 7 (counted from 0)"),
+    (Refusal::NotFilled { place: 76 }, Some(76), "refused 7: the extensions do not fill their space, from byte 76 on"),
     (
         Refusal::Mandatory { signature: *b"link" },
         Some(1818848875),
         "refused 8: the extension \"link\" (1818848875) must be understood, and is not",
     ),
     (Refusal::TooDeep, None, "refused 9: the tree is deeper than 64 levels"),
-    (
-        Refusal::NoNodeRoom,
-        None,
-        "refused 10: there is no room for the next node of the tree",
-    ),
+    (Refusal::NoNodeRoom, None, "refused 10: there is no room for the next node of the tree"),
     (Refusal::NoStage, None, "refused 11: there is no stage above 3"),
     (
         Refusal::PathOutside { record: 7 },
         Some(7),
         "refused 12: the path of record 7 (counted from 0) is not in its store",
     ),
-    (
-        Refusal::NotAfter { entry: 1 },
-        Some(1),
-        "refused 13: entry 1 (counted from 0) is not after the one before",
-    ),
-    (
-        Refusal::ShortOutput { size: 160 },
-        Some(160),
-        "refused 14: the output is too short: 160 bytes are needed",
-    ),
-    (
-        Refusal::TooLarge,
-        None,
-        "refused 15: there are over 4294967295 records, or bytes before the place of EOIE",
-    ),
+    (Refusal::NotAfter { entry: 1 }, Some(1), "refused 13: entry 1 (counted from 0) is not after the one before"),
+    (Refusal::ShortOutput { size: 160 }, Some(160), "refused 14: the output is too short: 160 bytes are needed"),
+    (Refusal::TooLarge, None, "refused 15: there are over 4294967295 records, or bytes before the place of EOIE"),
     (Refusal::NotProper, None, "refused 16: the nodes are no proper tree"),
-    (
-        Refusal::Other { number: 17, value: 3 },
-        Some(3),
-        "refused 17: for a reason that is not known here, with value 3",
-    ),
+    (Refusal::Other { number: 17, value: 3 }, Some(3), "refused 17: for a reason that is not known here, with value 3"),
 ];
 
 #[test]
 fn each_says_its_number_and_value() {
     for (number, (refusal, value, words)) in (1..).zip(ALL) {
-        assert_eq!(
-            (refusal.number(), refusal.value(), refusal.to_string()),
-            (number, value, words.to_string())
-        );
+        assert_eq!((refusal.number(), refusal.value(), refusal.to_string()), (number, value, words.to_string()));
         assert_eq!(Error::from(refusal).to_string(), words);
     }
 }
@@ -92,19 +49,10 @@ fn each_says_its_number_and_value() {
 fn the_header_has_the_same_numbers() {
     let header = std::fs::read_to_string("../include/sparrowpivot.h").unwrap();
     let named = |line: &str| {
-        line.trim()
-            .strip_prefix("SPARROWPIVOT_")?
-            .split_once(" = ")?
-            .1
-            .split([',', ' '])
-            .next()?
-            .parse()
-            .ok()
+        line.trim().strip_prefix("SPARROWPIVOT_")?.split_once(" = ")?.1.split([',', ' ']).next()?.parse().ok()
     };
-    let refusals = header
-        .lines()
-        .skip_while(|line| *line != "enum sparrowpivot_refusal {")
-        .take_while(|line| *line != "};");
+    let refusals =
+        header.lines().skip_while(|line| *line != "enum sparrowpivot_refusal {").take_while(|line| *line != "};");
     let numbers: Vec<u32> = refusals.filter_map(named).collect();
     assert_eq!(numbers, (1..=16).collect::<Vec<u32>>());
 }
@@ -119,10 +67,7 @@ fn refused(bytes: &[u8], words: &str) {
     let why = Index::from_bytes(bytes.to_vec()).unwrap_err();
     assert_eq!(why.to_string(), words);
     let output = over(&["list", "-"], bytes, 1);
-    assert_eq!(
-        String::from_utf8(output.stderr).unwrap(),
-        format!("sparrowpivot: standard input: {words}\n")
-    );
+    assert_eq!(String::from_utf8(output.stderr).unwrap(), format!("sparrowpivot: standard input: {words}\n"));
 }
 
 #[test]
@@ -136,23 +81,13 @@ fn files_that_cannot_be_read() {
     refused(&file(2, 2, &[&a, &a[..63]]), words(5));
     refused(&file(2, 1, &[&a, b"ABCD"]), words(7));
     refused(&file(2, 0, &[&extension(b"link", b"")]), words(8));
-    refused(
-        &file(2, 0, &[&extension(b"sdir", b"\0")]),
-        "refused 8: the extension \"sdir\" (1935960434) is not empty",
-    );
+    refused(&file(2, 0, &[&extension(b"sdir", b"\0")]), "refused 8: the extension \"sdir\" (1935960434) is not empty");
     refused(
         &file(2, 0, &[&extension(b"a\xff\n\"", b"")]),
         "refused 8: the extension \"a\\xff\\n\\\"\" (1644104226) must be understood, and is not",
     );
     refused(&file(2, 0, &[&extension(b"TREE", &deep(65))]), words(9));
-    assert_eq!(
-        Index::from_bytes(file(2, 0, &[&extension(b"TREE", &deep(64))]))
-            .unwrap()
-            .tree()
-            .unwrap()
-            .len(),
-        64
-    );
+    assert_eq!(Index::from_bytes(file(2, 0, &[&extension(b"TREE", &deep(64))])).unwrap().tree().unwrap().len(), 64);
 }
 
 #[test]
@@ -166,14 +101,8 @@ fn order_and_stage() {
 /// A count that the file cannot hold costs no memory.
 #[test]
 fn a_count_of_ones() {
-    refused(
-        &file(2, u32::MAX, &[]),
-        "refused 5: entry 0 (counted from 0) is not spelled as the format asks",
-    );
-    refused(
-        &file(4, u32::MAX, &[]),
-        "refused 5: entry 0 (counted from 0) is not spelled as the format asks",
-    );
+    refused(&file(2, u32::MAX, &[]), "refused 5: entry 0 (counted from 0) is not spelled as the format asks");
+    refused(&file(4, u32::MAX, &[]), "refused 5: entry 0 (counted from 0) is not spelled as the format asks");
 }
 
 /// Paths of version 4 that take much more room than the file: room is made, up to the limit that is set.

@@ -80,11 +80,7 @@ fn taken(rest: &mut Chars, word: &str) -> bool {
 }
 
 fn value(rest: &mut Chars) -> Json {
-    for (word, value) in [
-        ("null", Json::Null),
-        ("true", Json::Bool(true)),
-        ("false", Json::Bool(false)),
-    ] {
+    for (word, value) in [("null", Json::Null), ("true", Json::Bool(true)), ("false", Json::Bool(false))] {
         if taken(rest, word) {
             return value;
         }
@@ -125,11 +121,7 @@ fn list<T>(rest: &mut Chars, end: &str, item: impl Fn(&mut Chars) -> T) -> Vec<T
 
 fn number(rest: &mut Chars) -> Json {
     let digits: String = rest.as_str().chars().take_while(char::is_ascii_digit).collect();
-    assert!(
-        digits == "0" || !digits.is_empty() && !digits.starts_with('0'),
-        "a number at {}",
-        rest.as_str()
-    );
+    assert!(digits == "0" || !digits.is_empty() && !digits.starts_with('0'), "a number at {}", rest.as_str());
     *rest = rest.as_str()[digits.len()..].chars();
     Json::Number(digits.parse().unwrap())
 }
@@ -154,9 +146,6 @@ fn escaped(rest: &mut Chars) -> char {
             char::from_u32(u32::from_str_radix(&digits, 16).unwrap()).unwrap()
         }
         c if "\"\\/".contains(c) => c,
-        c => "\u{8}\u{c}\n\r\t"
-            .chars()
-            .nth("bfnrt".find(c).expect("an escape of JSON"))
-            .unwrap(),
+        c => "\u{8}\u{c}\n\r\t".chars().nth("bfnrt".find(c).expect("an escape of JSON")).unwrap(),
     }
 }

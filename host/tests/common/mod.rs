@@ -23,18 +23,11 @@ pub fn folder(name: &str) -> PathBuf {
 fn clean(program: impl AsRef<std::ffi::OsStr>, folder: &Path) -> Command {
     let mut command = Command::new(program);
     command.current_dir(folder).env_clear();
-    command
-        .env("PATH", std::env::var_os("PATH").unwrap())
-        .env("HOME", folder)
-        .env("LC_ALL", "C");
-    command
-        .env("GIT_CONFIG_GLOBAL", "/dev/null")
-        .env("GIT_CONFIG_NOSYSTEM", "1");
+    command.env("PATH", std::env::var_os("PATH").unwrap()).env("HOME", folder).env("LC_ALL", "C");
+    command.env("GIT_CONFIG_GLOBAL", "/dev/null").env("GIT_CONFIG_NOSYSTEM", "1");
     command.env("GIT_CEILING_DIRECTORIES", env!("CARGO_TARGET_TMPDIR"));
     for who in ["AUTHOR", "COMMITTER"] {
-        command
-            .env(format!("GIT_{who}_NAME"), "reporter")
-            .env(format!("GIT_{who}_EMAIL"), "reporter@example.org");
+        command.env(format!("GIT_{who}_NAME"), "reporter").env(format!("GIT_{who}_EMAIL"), "reporter@example.org");
         command.env(format!("GIT_{who}_DATE"), "1700000000 +0000");
     }
     command
@@ -42,12 +35,7 @@ fn clean(program: impl AsRef<std::ffi::OsStr>, folder: &Path) -> Command {
 
 /// Runs a command with this input.
 pub fn run(mut command: Command, input: &[u8]) -> Output {
-    let mut child = command
-        .stdin(Stdio::piped())
-        .stdout(Stdio::piped())
-        .stderr(Stdio::piped())
-        .spawn()
-        .unwrap();
+    let mut child = command.stdin(Stdio::piped()).stdout(Stdio::piped()).stderr(Stdio::piped()).spawn().unwrap();
     let (mut stdin, input) = (child.stdin.take().unwrap(), input.to_vec());
     let writer = std::thread::spawn(move || drop(stdin.write_all(&input)));
     let output = child.wait_with_output().unwrap();
@@ -96,10 +84,7 @@ impl Repo {
 
     /// One line of what git writes.
     pub fn word(&self, words: &[&str], input: &[u8]) -> String {
-        String::from_utf8(self.git_with(words, input))
-            .unwrap()
-            .trim_end()
-            .into()
+        String::from_utf8(self.git_with(words, input)).unwrap().trim_end().into()
     }
 
     pub fn blob(&self, content: &str) -> String {
@@ -137,10 +122,7 @@ impl Repo {
         let mut command = sparrowpivot(&self.top);
         command.args(words);
         let output = run(command, b"");
-        assert!(
-            output.status.success() && output.stderr.is_empty(),
-            "{words:?}: {output:?}"
-        );
+        assert!(output.status.success() && output.stderr.is_empty(), "{words:?}: {output:?}");
         output.stdout
     }
 }
@@ -148,13 +130,7 @@ impl Repo {
 /// A small work tree with a commit.
 pub fn committed(name: &str) -> Repo {
     let repo = Repo::new(name);
-    for path in [
-        "README",
-        "day1/morning",
-        "day1/noon",
-        "day2/exhibit/pair",
-        "day2/morning",
-    ] {
+    for path in ["README", "day1/morning", "day1/noon", "day2/exhibit/pair", "day2/morning"] {
         repo.file(path, &format!("{path}\n").repeat(20));
     }
     std::os::unix::fs::symlink("exhibit/pair", repo.top.join("day2/link")).unwrap();
@@ -212,13 +188,7 @@ pub fn entry4(strip: u8, suffix: &[u8]) -> Vec<u8> {
 }
 
 fn fixed(flags: u16) -> Vec<u8> {
-    [
-        [0; 24].as_slice(),
-        &0o100644u32.to_be_bytes(),
-        &[0; 32],
-        &flags.to_be_bytes(),
-    ]
-    .concat()
+    [[0; 24].as_slice(), &0o100644u32.to_be_bytes(), &[0; 32], &flags.to_be_bytes()].concat()
 }
 
 pub fn extension(signature: &[u8; 4], body: &[u8]) -> Vec<u8> {

@@ -15,18 +15,10 @@ pub enum Request {
 #[derive(Debug, PartialEq)]
 pub enum Action {
     List,
-    Find {
-        path: Vec<u8>,
-        stage: Option<u32>,
-    },
+    Find { path: Vec<u8>, stage: Option<u32> },
     Tree,
     Check,
-    Rewrite {
-        out: OsString,
-        tree: bool,
-        zero_trailer: bool,
-        drop: bool,
-    },
+    Rewrite { out: OsString, tree: bool, zero_trailer: bool, drop: bool },
 }
 
 /// In which form entries and nodes are given.
@@ -49,31 +41,11 @@ struct Command {
 }
 
 const COMMANDS: [Command; 5] = [
-    Command {
-        name: "list",
-        operand: None,
-        options: &["-z", "--json"],
-    },
-    Command {
-        name: "find",
-        operand: Some("PATH"),
-        options: &["-z", "--json", "--stage"],
-    },
-    Command {
-        name: "tree",
-        operand: None,
-        options: &["-z", "--json"],
-    },
-    Command {
-        name: "check",
-        operand: None,
-        options: &["--json"],
-    },
-    Command {
-        name: "rewrite",
-        operand: Some("OUT"),
-        options: &["--no-tree", "--zero-trailer", "--drop"],
-    },
+    Command { name: "list", operand: None, options: &["-z", "--json"] },
+    Command { name: "find", operand: Some("PATH"), options: &["-z", "--json", "--stage"] },
+    Command { name: "tree", operand: None, options: &["-z", "--json"] },
+    Command { name: "check", operand: None, options: &["--json"] },
+    Command { name: "rewrite", operand: Some("OUT"), options: &["--no-tree", "--zero-trailer", "--drop"] },
 ];
 
 /// The words behind a command's name, sorted out.
@@ -133,11 +105,7 @@ fn option(
     if *option == "--stage" {
         let value = value.or_else(|| words.next().map(|next| next.to_string_lossy().into_owned()));
         let number = value.ok_or_else(|| Usage("--stage asks for a number".into()))?;
-        sorted.stage = Some(
-            number
-                .parse()
-                .map_err(|_| Usage(format!("--stage asks for a number, not {number}")))?,
-        );
+        sorted.stage = Some(number.parse().map_err(|_| Usage(format!("--stage asks for a number, not {number}")))?);
     } else if value.is_some() {
         return Err(Usage(format!("{option} takes no value")));
     }
@@ -164,18 +132,10 @@ fn request(command: &Command, mut sorted: Words) -> Result<Request, Usage> {
     };
     let action = match command.name {
         "list" => Action::List,
-        "find" => Action::Find {
-            path: operand.into_vec(),
-            stage: sorted.stage,
-        },
+        "find" => Action::Find { path: operand.into_vec(), stage: sorted.stage },
         "tree" => Action::Tree,
         "check" => Action::Check,
-        _ => Action::Rewrite {
-            out: operand,
-            tree,
-            zero_trailer,
-            drop,
-        },
+        _ => Action::Rewrite { out: operand, tree, zero_trailer, drop },
     };
     let file = sorted.operands.pop_front();
     if let Some(over) = sorted.operands.pop_front() {

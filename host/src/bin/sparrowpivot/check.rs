@@ -16,11 +16,7 @@ struct Report<'a> {
 
 /// Writes the report, and says whether the index is sound.
 pub fn check(out: &mut impl Write, form: Form, index: &Index) -> io::Result<bool> {
-    let report = Report {
-        index,
-        order: index.check(),
-        tree: index.check_tree(),
-    };
+    let report = Report { index, order: index.check(), tree: index.check_tree() };
     match form {
         Form::Json => report.object(out)?,
         _ => report.lines(out)?,
@@ -35,12 +31,7 @@ impl Report<'_> {
 
     fn lines(&self, out: &mut impl Write) -> io::Result<()> {
         let sparse = if self.index.is_sparse() { ", sparse" } else { "" };
-        writeln!(
-            out,
-            "file: version {}, {} entries{sparse}",
-            self.index.version(),
-            self.index.len()
-        )?;
+        writeln!(out, "file: version {}, {} entries{sparse}", self.index.version(), self.index.len())?;
         match self.index.trailer() {
             Trailer::Hash => writeln!(out, "trailer: the SHA-1 of the rest")?,
             Trailer::Zeros => writeln!(out, "trailer: zeros, nothing was hashed")?,
@@ -67,9 +58,7 @@ impl Report<'_> {
     }
 
     fn out_of_date(&self) -> usize {
-        self.index
-            .tree()
-            .map_or(0, |tree| tree.nodes().filter(|node| node.entries.is_none()).count())
+        self.index.tree().map_or(0, |tree| tree.nodes().filter(|node| node.entries.is_none()).count())
     }
 
     fn object(&self, out: &mut impl Write) -> io::Result<()> {
@@ -77,18 +66,8 @@ impl Report<'_> {
             Trailer::Hash => "sha1",
             Trailer::Zeros => "zeros",
         };
-        write!(
-            out,
-            "{{\"sound\":{},\"version\":{}",
-            self.is_sound(),
-            self.index.version()
-        )?;
-        write!(
-            out,
-            ",\"entries\":{},\"sparse\":{}",
-            self.index.len(),
-            self.index.is_sparse()
-        )?;
+        write!(out, "{{\"sound\":{},\"version\":{}", self.is_sound(), self.index.version())?;
+        write!(out, ",\"entries\":{},\"sparse\":{}", self.index.len(), self.index.is_sparse())?;
         write!(out, ",\"trailer\":\"{trailer}\",\"order_fault\":")?;
         fault(out, self.order.err())?;
         out.write_all(b",\"tree_fault\":")?;

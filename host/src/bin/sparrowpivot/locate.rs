@@ -34,22 +34,13 @@ struct Found {
 fn nearest(here: &Path) -> Result<Option<Found>, String> {
     let named = std::env::var_os("GIT_CEILING_DIRECTORIES").unwrap_or_default();
     let ceilings: Vec<PathBuf> = std::env::split_paths(&named).collect();
-    for top in here
-        .ancestors()
-        .take_while(|top| *top == here || !ceilings.iter().any(|ceiling| ceiling == top))
-    {
+    for top in here.ancestors().take_while(|top| *top == here || !ceilings.iter().any(|ceiling| ceiling == top)) {
         let git = top.join(".git");
         if git.join("HEAD").exists() {
-            return Ok(Some(Found {
-                top: top.into(),
-                folder: git,
-            }));
+            return Ok(Some(Found { top: top.into(), folder: git }));
         }
         if git.is_file() {
-            return Ok(Some(Found {
-                top: top.into(),
-                folder: top.join(pointed_to(&git)?),
-            }));
+            return Ok(Some(Found { top: top.into(), folder: top.join(pointed_to(&git)?) }));
         }
     }
     Ok(None)
@@ -58,8 +49,6 @@ fn nearest(here: &Path) -> Result<Option<Found>, String> {
 /// What a `.git` that is a file points to, as in further work trees and in submodules: `gitdir: FOLDER`.
 fn pointed_to(git: &Path) -> Result<PathBuf, String> {
     let text = std::fs::read(git).map_err(|why| format!("{}: {why}", git.display()))?;
-    let line = text
-        .strip_prefix(b"gitdir: ")
-        .ok_or_else(|| format!("{}: no line `gitdir: FOLDER`", git.display()))?;
+    let line = text.strip_prefix(b"gitdir: ").ok_or_else(|| format!("{}: no line `gitdir: FOLDER`", git.display()))?;
     Ok(Path::new(OsStr::from_bytes(line.trim_ascii_end())).into())
 }

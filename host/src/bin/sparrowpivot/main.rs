@@ -21,11 +21,12 @@ mod quote;
 mod rewrite;
 mod show;
 
-use std::ffi::{OsStr, OsString};
+use std::ffi::OsStr;
 use std::io::{self, BufWriter, Read, Write};
 use std::process::ExitCode;
 
 use args::{Action, Form, Request};
+use rewrite::Lock;
 use sparrowpivot::{Entry, Index, Refusal, Stage};
 
 const HELP: &str = include_str!("help.txt");
@@ -82,32 +83,37 @@ fn run(out: &mut impl Write) -> Result<(), Stop> {
         Some(file) => file,
         None => locate::locate().map_err(Stop::Refused)?.into(),
     };
-    let name = if file == "-" {
-        OsStr::new("standard input")
-    } else {
-        file.as_os_str()
+    let lock = match &action {
+        Action::Rewrite { out, .. } if out != "-" => Some(Lock::take(out).map_err(Stop::Refused)?),
+        _ => None,
     };
-    let refused = |why: &dyn std::fmt::Display| Stop::Refused(format!("{}: {why}", name.to_string_lossy()));
-    let index = read(&file).map_err(|why| refused(&why))?;
+    let name = if file == "-" { OsStr::new("standard input") } else { &file };
+    act(out, action, form, &file, lock).map_err(|stop| match stop {
+        Stop::Refused(words) => Stop::Refused(format!("{}: {words}", name.to_string_lossy())),
+        other => other,
+    })
+}
+
+/// Reads the index and does what is asked for. What is rewritten goes to the file that is locked, or to the output.
+fn act(out: &mut impl Write, action: Action, form: Form, file: &OsStr, lock: Option<Lock>) -> Result<(), Stop> {
+    let index = read(file).map_err(|why| Stop::Refused(why.to_string()))?;
     match action {
         Action::List => Ok(show::entries(out, form, index.entries())?),
-        Action::Find { path, stage } => find(out, form, &index, &path, stage, &refused),
+        Action::Find { path, stage } => Ok(show::entries(out, form, found(&index, &path, stage)?.into_iter())?),
         Action::Tree => Ok(show::nodes(out, form, index.tree())?),
         Action::Check => check::check(out, form, &index)?.then_some(()).ok_or(Stop::NotSound),
-        Action::Rewrite {
-            out: to,
-            tree,
-            zero_trailer,
-            drop,
-        } => {
-            let bytes = rewrite::rewritten(&index, tree, zero_trailer, drop).map_err(|why| refused(&why))?;
-            put(out, &to, &bytes)
+        Action::Rewrite { tree, zero_trailer, drop, .. } => {
+            let bytes = rewrite::rewritten(&index, tree, zero_trailer, drop).map_err(Stop::Refused)?;
+            match lock {
+                Some(lock) => lock.replace(&bytes).map_err(Stop::Refused),
+                None => Ok(out.write_all(&bytes)?),
+            }
         }
     }
 }
 
 /// The index in a file, or in standard input where its name is `-`.
-fn read(file: &OsString) -> Result<Index, sparrowpivot::Error> {
+fn read(file: &OsStr) -> Result<Index, sparrowpivot::Error> {
     if file != "-" {
         return Index::open(file);
     }
@@ -116,32 +122,20 @@ fn read(file: &OsString) -> Result<Index, sparrowpivot::Error> {
     Index::from_bytes(bytes)
 }
 
-/// Writes the entries of one path, at one stage or at all.
-fn find(
-    out: &mut impl Write,
-    form: Form,
-    index: &Index,
-    path: &[u8],
-    stage: Option<u32>,
-    refused: &dyn Fn(&dyn std::fmt::Display) -> Stop,
-) -> Result<(), Stop> {
+/// The entries of one path, at one stage or at all: one at least.
+fn found<'a>(index: &'a Index, path: &[u8], stage: Option<u32>) -> Result<Vec<Entry<'a>>, Stop> {
+    let refused = |why: Refusal| Stop::Refused(why.to_string());
     let stages = match stage {
         None => Stage::ALL.to_vec(),
-        Some(number) => vec![Stage::try_from(number).map_err(|why| refused(&why))?],
+        Some(number) => vec![Stage::try_from(number).map_err(refused)?],
     };
-    let found: Result<Vec<Option<Entry<'_>>>, Refusal> = stages.iter().map(|stage| index.find(path, *stage)).collect();
-    let mut entries = found.map_err(|why| refused(&why))?.into_iter().flatten().peekable();
-    if entries.peek().is_none() {
+    let mut entries = Vec::new();
+    for stage in stages {
+        entries.extend(index.find(path, stage).map_err(refused)?);
+    }
+    if entries.is_empty() {
         let at = stage.map_or(String::new(), |number| format!(" at stage {number}"));
-        return Err(refused(&format!("there is no {}{at}", path.escape_ascii())));
+        return Err(Stop::Refused(format!("there is no {}{at}", path.escape_ascii())));
     }
-    Ok(show::entries(out, form, entries)?)
-}
-
-/// Writes bytes to a file, or to standard output where its name is `-`.
-fn put(out: &mut impl Write, to: &OsStr, bytes: &[u8]) -> Result<(), Stop> {
-    match to == "-" {
-        true => Ok(out.write_all(bytes)?),
-        false => rewrite::replace(to, bytes).map_err(Stop::Refused),
-    }
+    Ok(entries)
 }

@@ -23,9 +23,7 @@ pub fn entries<'a>(out: &mut impl Write, form: Form, all: impl Iterator<Item = E
 
 /// Writes the nodes of a tree, each as a line or as an object; where there is no tree, nothing or no object.
 pub fn nodes(out: &mut impl Write, form: Form, tree: Option<Tree<'_>>) -> io::Result<()> {
-    let all = tree
-        .iter()
-        .flat_map(|tree| tree.nodes().enumerate().map(|(i, node)| (tree.path(i), node)));
+    let all = tree.iter().flat_map(|tree| tree.nodes().enumerate().map(|(i, node)| (tree.path(i), node)));
     if form == Form::Json {
         return json::array(out, all, |out, (path, node)| node_object(out, &path, &node));
     }
@@ -54,11 +52,7 @@ fn entry_object(out: &mut impl Write, entry: &Entry<'_>) -> io::Result<()> {
     let (stat, flags) = (&entry.stat, entry.flags);
     out.write_all(b"{")?;
     json::bytes(out, "path", entry.path)?;
-    write!(
-        out,
-        ",\"stage\":{},\"mode\":\"{:06o}\",\"id\":\"{}\"",
-        entry.stage, entry.mode, entry.id
-    )?;
+    write!(out, ",\"stage\":{},\"mode\":\"{:06o}\",\"id\":\"{}\"", entry.stage, entry.mode, entry.id)?;
     write!(out, ",\"assume_valid\":{}", flags.assume_valid())?;
     write!(out, ",\"intent_to_add\":{}", flags.intent_to_add())?;
     write!(out, ",\"skip_worktree\":{}", flags.skip_worktree())?;
