@@ -70,7 +70,7 @@ fn is_older(path: &Path, than: SystemTime) -> bool {
 fn rt(repository: &Path, words: &[&str]) -> Result<(), String> {
     let said = Command::new("rt").args(words).current_dir(repository).output().map_err(|why| {
         format!(
-            "the static library is not there, and `rt` cannot build it ({why}).\n\
+            "the static library has to be built, and `rt` cannot be run ({why}).\n\
              Either put Rattle's command `rt` on the PATH, or set SPARROWPIVOT_LIB_DIR to the folder of {ARCHIVE}"
         )
     })?;

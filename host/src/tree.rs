@@ -130,7 +130,8 @@ impl fmt::Display for TreeFault {
         match self {
             TreeFault::Malformed => f.write_str("malformed, and read as none"),
             TreeFault::Count { folder, says, there } => {
-                write!(f, "{there} entries lie below \"{}\", which says {says}", folder.escape_ascii())
+                let folder = folder.escape_ascii();
+                write!(f, "the count of entries below \"{folder}\" is {says} in the tree, and {there} in the index")
             }
         }
     }

@@ -144,6 +144,9 @@ fn work_trees_and_submodules_have_their_own() {
     assert!(module.join(".git").is_file());
     assert_eq!(ends(&module.join("day2"), &["list"], 0).stdout, repo.git(&["ls-files", "--stage"]));
     assert_eq!(ends(&above.top, &["list"], 0).stdout, above.git(&["ls-files", "--stage"]));
+    let mut command = sparrowpivot(&above.top);
+    command.arg("list").env("GIT_DIR", "module/.git");
+    assert_eq!(run(command, b"").stdout, repo.git(&["ls-files", "--stage"]));
 }
 
 /// GIT_INDEX_FILE and GIT_DIR do what they do for git, also from below the top.
@@ -207,14 +210,14 @@ fn what_check_says() {
     );
     assert_eq!(
         said(&file(2, 2, &[&entry(b"b"), &entry(b"a\n"), &tree(b"\0-1 0\n")]), 1),
-        "file: version 2, 2 entries\ntrailer: zeros, nothing was hashed\norder: refused 13: entry 1 (counted from 0) is not after the one before: \"a\\n\"\ntree: 1 folders, 1 out of date\n"
+        "file: version 2, 2 entries\ntrailer: zeros, nothing was hashed\norder: refused 13: entry 1 (counted from 0) is not after the one before: \"a\\n\"\ntree: 1 folder, 1 out of date\n"
     );
     assert!(said(&file(2, 0, &[]), 0).ends_with("tree: none\n"));
     assert!(said(&file(2, 0, &[&tree(b"x")]), 1).ends_with("tree: malformed, and read as none\n"));
     assert!(said(&file(2, 1, &[&entry(b"a"), &tree(&counted)]), 1)
-        .ends_with("tree: 1 entries lie below \"\", which says 2\n"));
+        .ends_with("tree: the count of entries below \"\" is 2 in the tree, and 1 in the index\n"));
     assert!(said(&file(2, 2, &[&entry(b"a"), &entry(b"b"), &tree(&counted)]), 0)
-        .ends_with("tree: 1 folders, 0 out of date\n"));
+        .ends_with("tree: 1 folder, 0 out of date\n"));
 }
 
 #[test]

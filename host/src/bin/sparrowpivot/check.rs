@@ -31,7 +31,8 @@ impl Report<'_> {
 
     fn lines(&self, out: &mut impl Write) -> io::Result<()> {
         let sparse = if self.index.is_sparse() { ", sparse" } else { "" };
-        writeln!(out, "file: version {}, {} entries{sparse}", self.index.version(), self.index.len())?;
+        let entries = counted(self.index.len(), "entry", "entries");
+        writeln!(out, "file: version {}, {entries}{sparse}", self.index.version())?;
         match self.index.trailer() {
             Trailer::Hash => writeln!(out, "trailer: the SHA-1 of the rest")?,
             Trailer::Zeros => writeln!(out, "trailer: zeros, nothing was hashed")?,
@@ -43,7 +44,10 @@ impl Report<'_> {
         match (&self.tree, self.index.tree()) {
             (Err(fault), _) => writeln!(out, "tree: {fault}"),
             (Ok(()), None) => writeln!(out, "tree: none"),
-            (Ok(()), Some(tree)) => writeln!(out, "tree: {} folders, {} out of date", tree.len(), self.out_of_date()),
+            (Ok(()), Some(tree)) => {
+                let folders = counted(tree.len(), "folder", "folders");
+                writeln!(out, "tree: {folders}, {} out of date", self.out_of_date())
+            }
         }
     }
 
@@ -75,6 +79,10 @@ impl Report<'_> {
         let folders = self.index.tree().map_or(0, |tree| tree.len());
         writeln!(out, ",\"folders\":{folders},\"out_of_date\":{}}}", self.out_of_date())
     }
+}
+
+fn counted(n: usize, one: &str, more: &str) -> String {
+    format!("{n} {}", if n == 1 { one } else { more })
 }
 
 /// The words of a fault as a string, or null.

@@ -11,7 +11,7 @@ pub fn locate() -> Result<PathBuf, String> {
         // what is not absolute begins at the top of the work tree
         (Some(index), None) => Ok(nearest(&here)?.map_or(here, |found| found.top).join(index)),
         (Some(index), Some(_)) => Ok(set("GIT_WORK_TREE").map_or(here, PathBuf::from).join(index)),
-        (None, Some(folder)) => Ok(Path::new(&folder).join("index")),
+        (None, Some(folder)) => Ok(pointed_to(Path::new(&folder))?.join("index")),
         (None, None) => match nearest(&here)? {
             Some(found) => Ok(found.folder.join("index")),
             None => Err("there is no Git repository here or above: name an index file".into()),
@@ -36,19 +36,22 @@ fn nearest(here: &Path) -> Result<Option<Found>, String> {
     let ceilings: Vec<PathBuf> = std::env::split_paths(&named).collect();
     for top in here.ancestors().take_while(|top| *top == here || !ceilings.iter().any(|ceiling| ceiling == top)) {
         let git = top.join(".git");
-        if git.join("HEAD").exists() {
-            return Ok(Some(Found { top: top.into(), folder: git }));
-        }
-        if git.is_file() {
-            return Ok(Some(Found { top: top.into(), folder: top.join(pointed_to(&git)?) }));
+        // a folder of that name which is none of git's is passed over
+        if git.join("HEAD").symlink_metadata().is_ok() || git.is_file() {
+            return Ok(Some(Found { top: top.into(), folder: pointed_to(&git)? }));
         }
     }
     Ok(None)
 }
 
-/// What a `.git` that is a file points to, as in further work trees and in submodules: `gitdir: FOLDER`.
+/// The folder that a `.git` is, or points to where it is a file, as in further work trees and in submodules: by a line
+/// `gitdir: FOLDER`.
 fn pointed_to(git: &Path) -> Result<PathBuf, String> {
+    if !git.is_file() {
+        return Ok(git.into());
+    }
     let text = std::fs::read(git).map_err(|why| format!("{}: {why}", git.display()))?;
     let line = text.strip_prefix(b"gitdir: ").ok_or_else(|| format!("{}: no line `gitdir: FOLDER`", git.display()))?;
-    Ok(Path::new(OsStr::from_bytes(line.trim_ascii_end())).into())
+    let folder = Path::new(OsStr::from_bytes(line.trim_ascii_end()));
+    Ok(git.parent().map_or(folder.into(), |beside| beside.join(folder)))
 }
