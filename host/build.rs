@@ -49,11 +49,9 @@ fn built_folder() -> PathBuf {
     if archive.is_ok_and(|made| parts.iter().all(|part| is_older(part, made))) {
         return folder;
     }
-    let built = rt(repository, &["staticlib", "sparrowpivot"]).or_else(|_| {
-        rt(repository, &["check", "sparrowpivot"]).and_then(|()| rt(repository, &["staticlib", "sparrowpivot"]))
-    });
-    if let Err(why) = built {
-        fail(&why);
+    // the first proves what is not proved yet, several crates at a time
+    for verb in ["check", "staticlib"] {
+        rt(repository, &[verb, "sparrowpivot"]).unwrap_or_else(|why| fail(&why));
     }
     folder
 }

@@ -1,6 +1,7 @@
 //! What the command says of repositories, held against what git says.
 mod common;
-use common::{committed, json, quarrel, run, sparrowpivot, thirty_thousand, Repo};
+use common::{committed, json, quarrel, run, sparrowpivot as command, thirty_thousand, Repo};
+use sparrowpivot::Index;
 
 /// Lists, finds and rewrites the index of a repository, and compares each with git.
 fn same_as_git(repo: &Repo) {
@@ -58,7 +59,7 @@ fn found(repo: &Repo, nul: &[u8]) {
     for line in lines.iter().step_by(1 + lines.len() / 20) {
         let tab = line.iter().position(|byte| *byte == b'\t').unwrap();
         let (stage, path) = (char::from(line[tab - 1]).to_string(), &line[tab + 1..line.len() - 1]);
-        let mut command = sparrowpivot(&repo.top);
+        let mut command = command(&repo.top);
         command.args(["find", "-z", "--stage", &stage, "--"]);
         command.arg(<std::ffi::OsStr as std::os::unix::ffi::OsStrExt>::from_bytes(path));
         let output = run(command, b"");
@@ -75,8 +76,17 @@ fn rewritten(repo: &Repo, nul: &[u8]) {
     assert!(output.status.success() && output.stdout == nul, "rewrite of {:?}: {:?}", repo.top, output.stderr);
     let (old, new) = (repo.ours(&["list", "--json"]), repo.ours(&["list", "--json", "anew"]));
     assert!(old == new, "stat data and flags of {:?}", repo.top);
-    assert_eq!(repo.ours(&["tree"]).len(), repo.ours(&["tree", "anew"]).len());
+    assert_eq!(sorted(&repo.ours(&["tree"])), sorted(&repo.ours(&["tree", "anew"])));
     repo.ours(&["check", "anew"]);
+    let (old, new) = (Index::open(repo.index()).unwrap(), Index::open(repo.top.join("anew")).unwrap());
+    assert_eq!(old.end_of_entries().is_some(), new.end_of_entries().is_some(), "EOIE of {:?}", repo.top);
+}
+
+/// The lines of a text in order: the tree is written in another order of folders than git's.
+fn sorted(text: &[u8]) -> Vec<&[u8]> {
+    let mut lines: Vec<&[u8]> = text.split(|byte| *byte == b'\n').collect();
+    lines.sort();
+    lines
 }
 
 #[test]
@@ -195,6 +205,9 @@ fn thirty_thousand_entries() {
     for version in ["2", "4"] {
         let repo = thirty_thousand(&format!("large-{version}"), version);
         same_as_git(&repo);
+        let index = Index::open(repo.index()).unwrap();
+        let signatures: Vec<[u8; 4]> = index.extensions().unwrap().map(|extension| extension.signature).collect();
+        assert_eq!(signatures, [*b"IEOT", *b"TREE", *b"EOIE"]);
         let started = std::time::Instant::now();
         let lines = repo.ours(&["list"]);
         let took = started.elapsed();
