@@ -94,13 +94,22 @@ fn answer(call: impl FnOnce(*mut u64) -> u32) -> Result<Values, Refusal> {
     }
 }
 
+/// A slice that is read, as it is passed.
+fn shown(slice: &[u8]) -> (*const u8, usize) {
+    (slice.as_ptr(), slice.len())
+}
+
+/// A slice that is written, as it is passed.
+fn lent(slice: &mut [u8]) -> (*mut u8, usize) {
+    let len = slice.len();
+    (slice.as_mut_ptr(), len)
+}
+
 /// Reads a file into three stores. Version; sparse; there is a tree; records; path bytes; nodes.
 pub(crate) fn read(file: &[u8], records: &mut [u8], paths: &mut [u8], nodes: &mut [u8]) -> Result<Values, Refusal> {
-    let (r, p, n) = (records.as_mut_ptr(), paths.as_mut_ptr(), nodes.as_mut_ptr());
-    // Sound: the three stores are lent mutably, so they overlap neither each other nor the file; `v` points to eight numbers.
-    answer(|v| unsafe {
-        sparrowpivot_read(file.as_ptr(), file.len(), r, records.len(), p, paths.len(), n, nodes.len(), v)
-    })
+    let ((f, fs), (r, rs), (p, ps), (n, ns)) = (shown(file), lent(records), lent(paths), lent(nodes));
+    // Sound: the stores are lent mutably, so they overlap neither each other nor the file; `v` points to eight numbers.
+    answer(|v| unsafe { sparrowpivot_read(f, fs, r, rs, p, ps, n, ns, v) })
 }
 
 /// Reads `count` entries into two stores. The place behind them; path bytes; whether one is a directory.
@@ -111,11 +120,9 @@ pub(crate) fn entries(
     records: &mut [u8],
     paths: &mut [u8],
 ) -> Result<Values, Refusal> {
-    let (r, p) = (records.as_mut_ptr(), paths.as_mut_ptr());
-    // Sound: the two stores are lent mutably, so they overlap neither each other nor the file; `v` points to eight numbers.
-    answer(|v| unsafe {
-        sparrowpivot_entries(file.as_ptr(), file.len(), version, count, r, records.len(), p, paths.len(), v)
-    })
+    let ((f, fs), (r, rs), (p, ps)) = (shown(file), lent(records), lent(paths));
+    // Sound: the stores are lent mutably, so they overlap neither each other nor the file; `v` points to eight numbers.
+    answer(|v| unsafe { sparrowpivot_entries(f, fs, version, count, r, rs, p, ps, v) })
 }
 
 /// The most entries that a file of so many bytes can have.
@@ -126,62 +133,63 @@ pub(crate) fn max_entries(file_size: usize) -> u64 {
 
 /// Where extensions begin, if there is an EOIE that holds.
 pub(crate) fn eoie(file: &[u8]) -> Option<u64> {
+    let (f, fs) = shown(file);
     // Sound: the file is only read; `v` points to eight numbers.
-    let values = answer(|v| unsafe { sparrowpivot_eoie(file.as_ptr(), file.len(), v) }).ok()?;
+    let values = answer(|v| unsafe { sparrowpivot_eoie(f, fs, v) }).ok()?;
     (values[0] == 1).then_some(values[1])
 }
 
 /// The record that has this path and stage: its index.
 pub(crate) fn lookup(records: &[u8], paths: &[u8], key: &[u8], stage: u32) -> Result<Option<usize>, Refusal> {
-    let (r, p) = (records.as_ptr(), paths.as_ptr());
+    let ((r, rs), (p, ps), (k, ks)) = (shown(records), shown(paths), shown(key));
     // Sound: all slices are only read, so that they may overlap; `v` points to eight numbers.
-    let values = answer(|v| unsafe {
-        sparrowpivot_lookup(r, records.len(), p, paths.len(), key.as_ptr(), key.len(), stage, v)
-    })?;
+    let values = answer(|v| unsafe { sparrowpivot_lookup(r, rs, p, ps, k, ks, stage, v) })?;
     Ok((values[0] == 1).then_some(values[1] as usize))
 }
 
 /// Whether each record is strictly after the one before.
 pub(crate) fn check_order(records: &[u8], paths: &[u8]) -> Result<(), Refusal> {
-    let (r, p) = (records.as_ptr(), paths.as_ptr());
+    let ((r, rs), (p, ps)) = (shown(records), shown(paths));
     // Sound: both slices are only read; `v` points to eight numbers.
-    answer(|v| unsafe { sparrowpivot_check_order(r, records.len(), p, paths.len(), v) }).map(|_| ())
+    answer(|v| unsafe { sparrowpivot_check_order(r, rs, p, ps, v) }).map(|_| ())
 }
 
 /// Record i: mode; flags; stage; start and end of its path; the path is there; the record is there; size of its file.
 pub(crate) fn record(records: &[u8], paths: &[u8], i: usize) -> Option<Values> {
-    let (r, p) = (records.as_ptr(), paths.as_ptr());
+    let ((r, rs), (p, ps)) = (shown(records), shown(paths));
     // Sound: both slices are only read, and any `i` may be asked for; `v` points to eight numbers.
-    let values = answer(|v| unsafe { sparrowpivot_record(r, records.len(), p, paths.len(), i, v) }).ok()?;
+    let values = answer(|v| unsafe { sparrowpivot_record(r, rs, p, ps, i, v) }).ok()?;
     (values[6] == 1).then_some(values)
 }
 
 /// More of record i: ctime and mtime, in seconds and nanoseconds; dev; ino; uid; gid. Zeros where there is none.
 pub(crate) fn record_stat(records: &[u8], i: usize) -> Values {
+    let (r, rs) = shown(records);
     // Sound: the slice is only read, and any `i` may be asked for; `v` points to eight numbers.
-    answer(|v| unsafe { sparrowpivot_record_stat(records.as_ptr(), records.len(), i, v) }).unwrap_or_default()
+    answer(|v| unsafe { sparrowpivot_record_stat(r, rs, i, v) }).unwrap_or_default()
 }
 
 /// The id of record i; zeros where there is none.
 pub(crate) fn record_id(records: &[u8], i: usize) -> [u8; 20] {
-    let mut id = [0; 20];
+    let ((r, rs), mut id) = (shown(records), [0; 20]);
     // Sound: the slice is only read, any `i` may be asked for, and just the 20 bytes of an id are written.
-    unsafe { sparrowpivot_record_id(records.as_ptr(), records.len(), i, id.as_mut_ptr()) };
+    unsafe { sparrowpivot_record_id(r, rs, i, id.as_mut_ptr()) };
     id
 }
 
 /// Node i: start and end of its name; entry count; subtree count; parent.
 pub(crate) fn node(nodes: &[u8], i: usize) -> Option<Values> {
+    let (n, ns) = shown(nodes);
     // Sound: the slice is only read, and any `i` may be asked for; `v` points to eight numbers.
-    let values = answer(|v| unsafe { sparrowpivot_node(nodes.as_ptr(), nodes.len(), i, v) }).ok()?;
+    let values = answer(|v| unsafe { sparrowpivot_node(n, ns, i, v) }).ok()?;
     (values[5] == 1).then_some(values)
 }
 
 /// The id of node i; zeros where it has none.
 pub(crate) fn node_id(nodes: &[u8], i: usize) -> [u8; 20] {
-    let mut id = [0; 20];
+    let ((n, ns), mut id) = (shown(nodes), [0; 20]);
     // Sound: the slice is only read, any `i` may be asked for, and just the 20 bytes of an id are written.
-    unsafe { sparrowpivot_node_id(nodes.as_ptr(), nodes.len(), i, id.as_mut_ptr()) };
+    unsafe { sparrowpivot_node_id(n, ns, i, id.as_mut_ptr()) };
     id
 }
 
@@ -194,8 +202,8 @@ pub(crate) fn write(
     options: u32,
     out: &mut [u8],
 ) -> Result<Values, Refusal> {
-    let (r, p, n, m, o) = (records.as_ptr(), paths.as_ptr(), nodes.as_ptr(), names.as_ptr(), out.as_mut_ptr());
-    let (rs, ps, ns, ms, os) = (records.len(), paths.len(), nodes.len(), names.len(), out.len());
+    let ((r, rs), (p, ps), (n, ns), (m, ms)) = (shown(records), shown(paths), shown(nodes), shown(names));
+    let (o, os) = lent(out);
     // Sound: only `out` is written, which is lent mutably and so overlaps no other; `v` points to eight numbers.
     answer(|v| unsafe { sparrowpivot_write(r, rs, p, ps, n, ns, m, ms, options, o, os, v) })
 }

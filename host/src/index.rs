@@ -59,8 +59,8 @@ impl Index {
     /// Reads the bytes of an index file, with no more than so many bytes for paths; where that does not do, the answer
     /// is [`Error::OutOfMemory`].
     ///
-    /// Records and nodes take memory in proportion to the file. Paths do not in version 4, where each may repeat the one
-    /// before: a file of one million bytes can spell out some four thousand million. Whoever reads the files of
+    /// Records and nodes take memory in proportion to the file. Paths do not in version 4, where each may repeat the
+    /// one before: a file of one million bytes can spell out some four thousand million. Whoever reads the files of
     /// strangers sets a limit.
     pub fn from_bytes_limited(file: Vec<u8>, most_path_bytes: usize) -> Result<Index, Error> {
         let (values, stores) = stores::read(&file, most_path_bytes)?;

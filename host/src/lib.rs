@@ -1,7 +1,7 @@
 //! Git index files, read by code that is proved to read them right.
 //!
-//! An [`Index`] owns the bytes of an index file and what was read from them: its [entries](Index::entries), which can be
-//! [found](Index::find) by path and stage, and its [tree](Index::tree). It sizes its memory by itself.
+//! An [`Index`] owns the bytes of an index file and what was read from them: its [entries](Index::entries), which can
+//! be [found](Index::find) by path and stage, and its [tree](Index::tree). It sizes its memory by itself.
 //!
 //! ```
 //! use sparrowpivot::{Index, Stage};
