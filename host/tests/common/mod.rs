@@ -20,7 +20,7 @@ pub fn folder(name: &str) -> PathBuf {
 }
 
 /// A command in a folder, with nothing of the caller's environment but the way to find programs.
-fn clean(program: impl AsRef<std::ffi::OsStr>, folder: &Path) -> Command {
+pub fn clean(program: impl AsRef<std::ffi::OsStr>, folder: &Path) -> Command {
     let mut command = Command::new(program);
     command.current_dir(folder).env_clear();
     command.env("PATH", std::env::var_os("PATH").unwrap()).env("HOME", folder).env("LC_ALL", "C");

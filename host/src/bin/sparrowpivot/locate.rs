@@ -6,14 +6,14 @@ use std::path::{Path, PathBuf};
 /// Where the index should be. The error says that there is no repository, or what is wrong with its `.git`.
 pub fn locate() -> Result<PathBuf, String> {
     let here = std::env::current_dir().map_err(|why| format!("the current folder: {why}"))?;
-    let (index, folder) = (set("GIT_INDEX_FILE"), set("GIT_DIR"));
-    match (index, folder) {
+    match (set("GIT_INDEX_FILE"), set("GIT_DIR")) {
         // what is not absolute begins at the top of the work tree
         (Some(index), None) => Ok(nearest(&here)?.map_or(here, |found| found.top).join(index)),
         (Some(index), Some(_)) => Ok(set("GIT_WORK_TREE").map_or(here, PathBuf::from).join(index)),
         (None, Some(folder)) => Ok(pointed_to(Path::new(&folder))?.join("index")),
         (None, None) => match nearest(&here)? {
-            Some(found) => Ok(found.folder.join("index")),
+            // of the repository of this folder the name is short
+            Some(found) => Ok(found.folder.strip_prefix(&here).unwrap_or(&found.folder).join("index")),
             None => Err("there is no Git repository here or above: name an index file".into()),
         },
     }
