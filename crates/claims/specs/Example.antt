@@ -8,6 +8,7 @@ use native.Mathlib.Omega.{arith}
 use lib.Dec.{lit≤, lit<}
 use lib.ListN.{length, replicate, length-append}
 use Rattle.laws.specs.Times.{done, more}
+use Rattle.format.specs.Format.{idSize}
 use Rattle.grammar.specs.Extension.{Ext, LastSigned, last-signed, bytesOf}
 use Rattle.file.specs.Read.{readFile}
 use Rattle.grammar.specs.File.{Index, File, space}
@@ -15,7 +16,7 @@ use Rattle.grammar.specs.Fault.{extensions-length}
 use Rattle.claims_entries.specs.Rendering.{pathsBytes}
 use Rattle.claims_entries.specs.Said.{RoomFor}
 use Rattle.claims_extension.specs.Words.{allBytes, bytes-if}
-use Rattle.claims.specs.Premises.{idLength, Slices, zeros}
+use Rattle.claims.specs.Premises.{Slices, zeros}
 use Rattle.claims.specs.Marked.{least-file}
 use Rattle.claims.specs.Said.{Opened}
 use Rattle.claims.specs.Claims.{TreeFits, IsRead, accepted-exactly-if-spelled}
@@ -38,7 +39,7 @@ opened : Opened least-file
 opened = record { header = record { long = lit≤ tt; signature = refl; version = record { oldest = lit≤ tt; newest = lit≤ tt } }; trailer = zeros refl }
 
 -- no entry comes before the first not spelled, for there is none
-room : RoomFor idLength 2 (space idLength least-file) 0 records paths
+room : RoomFor idSize 2 (space idSize least-file) 0 records paths
 unfolding pathsBytes
 room k ms rest h (b, i, done) = record { records = lit≤ tt; paths = lit≤ tt }
 room k ms rest h (b, i, more x y) = absurd (omega arith)
@@ -58,5 +59,5 @@ tree-fits place body x =
     absurd (none-last (x .last) (sym (extensions-length (x .extensions)) ∙ empty))
 
 -- so the claims speak of it
-pub claimed : IsRead (readFile 20 64 least-file records paths nodes .answer) ↔ ((m : Index) × File idLength least-file m)
+pub claimed : IsRead (readFile 20 64 least-file records paths nodes .answer) ↔ ((m : Index) × File idSize least-file m)
 claimed = accepted-exactly-if-spelled least-file records paths nodes slices opened room tree-fits

@@ -11,6 +11,7 @@ use Rattle.wire.specs.BigEndian.{beAt, bytesOf}
 use Rattle.wire.specs.Groups.{groupsIn, numberAt}
 use Rattle.wire.specs.declared.Number.{Number}
 use Rattle.wire.specs.declared.Number.the-variants.{Is, Cut, Over}
+use Rattle.format.specs.Format.{depthLimit, idSize}
 use Rattle.entry.specs.Flags.{extendedToMemory}
 use Rattle.entry.specs.Mode.{keepMode}
 use Rattle.entry.specs.Record.{recordOf, frontOf, restOf, fieldAt, liesInside, pathAt}
@@ -32,7 +33,6 @@ use Rattle.file.specs.Trailer.{goodTrailer}
 use Rattle.file.specs.Read.{Outcome, outcome, extensionsInto, entriesInto, readFile}
 use Rattle.file.specs.declared.Answer.{Answer}
 use Rattle.file.specs.declared.Answer.the-variants.{Read, ShortFile}
-use Rattle.claims.specs.Premises.{idLength, depthLimit}
 
 -- ---- what is asked, and what can be said
 
@@ -90,7 +90,7 @@ fixed flags = replicate 60 1 ++ (flags / 256 ∷ flags % 256 ∷ [])
 
 -- the measure of the entry that a file of version v is but for its trailer, after a path of so many bytes
 abbrev whole : List ℕ → ℕ → ℕ → Measured
-whole s v before = measureAt idLength (s ++ replicate idLength 9) 0 (length s) v false before
+whole s v before = measureAt idSize (s ++ replicate idSize 9) 0 (length s) v false before
 
 abbrev lengths : ℕ → ℕ → Measured → Said
 lengths size n (Entry f k p l x) = entry (x .0) (x .0 - size - n)
@@ -116,13 +116,13 @@ abbrev stripped : ℕ → List ℕ → List ℕ
 stripped strip suffix = fixed 0 ++ (strip ∷ suffix) ++ (0 ∷ [])
 
 pub answer : Asked → Said
-answer (file s) = numbered (readFile idLength depthLimit s lentRecords lentPaths lentNodes)
+answer (file s) = numbered (readFile idSize depthLimit s lentRecords lentPaths lentNodes)
 answer (plain n field) = lengths 62 n (whole (fixed field ++ replicate n 97 ++ replicate 8 0) 3 0)
 answer (wider n field) = lengths 64 n (whole (fixed (16384 + field) ++ (0 ∷ 0 ∷ []) ++ replicate n 97 ++ replicate 8 0) 3 0)
 answer (groups s) = value (numberAt s 0 (length s))
 answer (after before strip suffix) = pathOf (stripped strip suffix) before (whole (stripped strip suffix) 4 (length before))
 answer (bits more) = flagsOf (whole (fixed 16385 ++ (more / 256 ∷ more % 256 ∷ []) ++ replicate 9 97) 3 0)
-answer (fileSize n) = atMost (maxEntries n NotTold 2 idLength)
+answer (fileSize n) = atMost (maxEntries n NotTold 2 idSize)
 answer (order rs ps) = checked (verifyAt rs ps)
 
 -- ---- the pages

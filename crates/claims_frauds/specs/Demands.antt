@@ -9,6 +9,7 @@ use mathlib.Core.Option.{some}
 use lib.ListN.{length, take, getElem?}
 use Rattle.laws.specs.Pick.{pick}
 use Rattle.wire.specs.Places.{fileAt}
+use Rattle.format.specs.Format.{idSize}
 use Rattle.sha1.specs.Sha1.{sha1}
 use Rattle.entry.specs.Record.{recordsIn}
 use Rattle.node.specs.Store.{nodesIn}
@@ -29,7 +30,7 @@ use Rattle.write.specs.declared.Answer.the-variants.{Done}
 use Rattle.claims_entries.specs.Rendering.{pathsBytes}
 use Rattle.claims_entries.specs.Said.{filled, StopsAt, RoomFor}
 use Rattle.claims_tree.specs.Rendering.{treeBytes}
-use Rattle.claims.specs.Premises.{idLength, Slices}
+use Rattle.claims.specs.Premises.{Slices}
 use Rattle.claims.specs.Said.{Opened, holding}
 use Rattle.claims.specs.Claims.{TreeFits, Renders, IsRead}
 use Rattle.claims_write.specs.Meaning.{keptOf, meaningsOf, WritableTable, SameEntry}
@@ -64,19 +65,19 @@ pub record Digester : Type 1 where
 pub record Readable (s rs ps ns : List ℕ) : Type 0 where
   pub slices : Slices s ps ns
   pub opened : Opened s
-  pub room : RoomFor idLength (versionOf s) (space idLength s) (countOf s) rs ps
+  pub room : RoomFor idSize (versionOf s) (space idSize s) (countOf s) rs ps
 
 pub record Demand3 (read : Reader) : Type 0 where
   -- the reader accepts the file exactly if the grammar spells it
-  pub accepted-exactly-if-spelled : (s rs ps ns : List ℕ) → Readable s rs ps ns → TreeFits s ns → IsRead (read s rs ps ns .answer) ↔ ((m : Index) × File idLength s m)
+  pub accepted-exactly-if-spelled : (s rs ps ns : List ℕ) → Readable s rs ps ns → TreeFits s ns → IsRead (read s rs ps ns .answer) ↔ ((m : Index) × File idSize s m)
   -- the grammar spells at most one meaning
-  pub one-meaning : (s : List ℕ) (m o : Index) → File idLength s m → File idLength s o → m ≡ o
+  pub one-meaning : (s : List ℕ) (m o : Index) → File idSize s m → File idSize s o → m ≡ o
   -- answer and all three stores are exactly the rendering of that meaning
-  pub stores-are-the-meaning : (s rs ps ns : List ℕ) → Readable s rs ps ns → TreeFits s ns → (m : Index) → File idLength s m → Renders s rs ps ns m (read s rs ps ns)
+  pub stores-are-the-meaning : (s rs ps ns : List ℕ) → Readable s rs ps ns → TreeFits s ns → (m : Index) → File idSize s m → Renders s rs ps ns m (read s rs ps ns)
   -- refusal 5 names k exactly when the first k entries can be spelled and the next, within the count, cannot
-  pub refusal-5-exactly : (s rs ps ns : List ℕ) → Readable s rs ps ns → (k : ℕ) → (read s rs ps ns .answer ≡ NotSpelled k) ↔ StopsAt idLength (versionOf s) (space idLength s) (countOf s) k
+  pub refusal-5-exactly : (s rs ps ns : List ℕ) → Readable s rs ps ns → (k : ℕ) → (read s rs ps ns .answer ≡ NotSpelled k) ↔ StopsAt idSize (versionOf s) (space idSize s) (countOf s) k
   -- and then the stores hold the entries before it, and nothing else is touched
-  pub refusal-5-stores : (s rs ps ns : List ℕ) → Readable s rs ps ns → (k : ℕ) (x : StopsAt idLength (versionOf s) (space idLength s) (countOf s) k) → read s rs ps ns ≡ holding s rs ps ns (x .1 .0) (NotSpelled k)
+  pub refusal-5-stores : (s rs ps ns : List ℕ) → Readable s rs ps ns → (k : ℕ) (x : StopsAt idSize (versionOf s) (space idSize s) (countOf s) k) → read s rs ps ns ≡ holding s rs ps ns (x .1 .0) (NotSpelled k)
 
 -- ---- DEMAND 2: read-back
 

@@ -9,6 +9,7 @@ use lib.Dec.{lit≤, lit<}
 use lib.ListN.{length, getD, replicate}
 use Rattle.laws.specs.Times.{readTimes, done}
 use Rattle.wire.specs.BigEndian.{beAt, bytesOf}
+use Rattle.format.specs.Format.{idSize}
 use Rattle.sha1.specs.Sha1.{rotl, ch, parity, maj, mixOf, constOf, zerosOf, padding, initial, wordsOf, nextWord, extend, schedule, turn, rounds, added, compress, hashBlocks, digestOf, sha1}
 use Rattle.entry.specs.Mode.{keepMode}
 use Rattle.entry.specs.Record.{recordOf, frontOf, restOf, fieldAt, liesInside, pathAt}
@@ -24,7 +25,7 @@ use Rattle.grammar.specs.Examples.{path-to-nul}
 use Rattle.claims_entries.specs.Rendering.{pathsBytes}
 use Rattle.claims_entries.specs.Said.{Fits, RoomFor}
 use Rattle.claims_extension.specs.Words.{allBytes, bytes-if}
-use Rattle.claims.specs.Premises.{idLength, Slices, zeros}
+use Rattle.claims.specs.Premises.{Slices, zeros}
 use Rattle.claims.specs.Said.{Opened}
 use Rattle.claims.specs.Claims.{TreeFits}
 use Rattle.claims.specs.Example.{none-last}
@@ -46,7 +47,7 @@ the-entry = meaning (record { ctime = 0; ctime-nanos = 0; mtime = 0; mtime-nanos
 abbrev pub the-index : Index
 the-index = record { version = 2; sparse = false; entries = the-entry ∷ []; tree = none }
 
-pub one-entry-spelled : File idLength one-entry the-index
+pub one-entry-spelled : File idSize one-entry the-index
 one-entry-spelled = path-to-nul
 
 -- the stores lent: for one record, two path bytes and one node
@@ -69,15 +70,15 @@ opened : Opened one-entry
 opened = record { header = record { long = lit≤ tt; signature = refl; version = record { oldest = lit≤ tt; newest = lit≤ tt } }; trailer = zeros refl }
 
 -- the entry takes the whole space
-all-spelled : Entries idLength 2 start 1 (space idLength one-entry) (the-entry ∷ [])
+all-spelled : Entries idSize 2 start 1 (space idSize one-entry) (the-entry ∷ [])
 unfolding readTimes readBytes readBig readUntil readWords readFields readFlags readToNul readName readEntry readEntries
-all-spelled = decided (entries-reads idLength 2 start 1) (space idLength one-entry) (the-entry ∷ []) refl
+all-spelled = decided (entries-reads idSize 2 start 1) (space idSize one-entry) (the-entry ∷ []) refl
 
-room : RoomFor idLength 2 (space idLength one-entry) 1 records paths
+room : RoomFor idSize 2 (space idSize one-entry) 1 records paths
 unfolding pathsBytes
 room zero ms rest h (b, i, done) = record { records = lit≤ tt; paths = lit≤ tt }
 room (suc zero) ms rest h x =
-    let (e, f, g) = entries-unique idLength 2 start 1 (space idLength one-entry) ms (the-entry ∷ []) rest [] x (space idLength one-entry, refl, all-spelled) in
+    let (e, f, g) = entries-unique idSize 2 start 1 (space idSize one-entry) ms (the-entry ∷ []) rest [] x (space idSize one-entry, refl, all-spelled) in
     subst (λ (l : List Meaning). Fits records paths 1 l) (sym e) (record { records = lit≤ tt; paths = lit≤ tt })
 room (suc (suc k)) ms rest h x = absurd (omega arith)
 
@@ -86,7 +87,7 @@ readable = record { slices = slices; opened = opened; room = room }
 
 pub tree-fits : TreeFits one-entry nodes
 tree-fits place body x =
-    let (e, f, g) = entries-unique idLength 2 start 1 (space idLength one-entry) (x .ms) (the-entry ∷ []) (x .c) [] (x .b, x .joins, x .entries) (space idLength one-entry, refl, all-spelled) in
+    let (e, f, g) = entries-unique idSize 2 start 1 (space idSize one-entry) (x .ms) (the-entry ∷ []) (x .c) [] (x .b, x .joins, x .entries) (space idSize one-entry, refl, all-spelled) in
     absurd (none-last (x .last) (sym (extensions-length (x .extensions)) ∙ ap length f))
 
 -- ---- 01's marked table loses nothing by being written, and three records and five path bytes are room enough for it

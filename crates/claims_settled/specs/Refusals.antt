@@ -7,6 +7,7 @@ use mathlib.Core.List.{List, _++_}
 use lib.Dec.{ltb}
 use lib.ListN.{length, drop}
 use Rattle.laws.specs.Pick.{pick}
+use Rattle.format.specs.Format.{idSize}
 use Rattle.sha1.specs.Sha1.{sha1}
 use Rattle.entry.specs.Record.{recordsIn}
 use Rattle.access.proofs as access
@@ -23,7 +24,7 @@ use Rattle.write.specs.declared.Answer.the-variants.{Done, PathOutside, NotProp
 use Rattle.claims_entries.specs.Rendering.{recordsBytes, pathsBytes}
 use Rattle.claims_entries.specs.Said.{filled}
 use Rattle.claims_tree.specs.Said.{zeroed}
-use Rattle.claims.specs.Premises.{idLength, Slices}
+use Rattle.claims.specs.Premises.{Slices}
 use Rattle.claims.specs.Said.{SaysFile, says-short, says-no-signature, says-other-version, says-bad-trailer, says-not-spelled, says-no-entry-room, says-not-filled, says-mandatory, says-too-deep, says-no-node-room}
 use Rattle.claims.specs.Claims.{contract-says}
 use Rattle.claims_settled.specs.Law.{Stores}
@@ -41,9 +42,9 @@ pub record FirstEntries (s rs ps : List ℕ) (k : ℕ) (nodes rs′ ps′ ns′ 
   pub before : List ℕ
   pub behind : List ℕ
   pub ms : List Meaning
-  pub joins : space idLength s ≡ before ++ behind
-  pub spelled : Entries idLength (versionOf s) start k before ms
-  pub records : rs′ ≡ filled rs (recordsBytes idLength 0 ms)
+  pub joins : space idSize s ≡ before ++ behind
+  pub spelled : Entries idSize (versionOf s) start k before ms
+  pub records : rs′ ≡ filled rs (recordsBytes idSize 0 ms)
   pub paths : ps′ ≡ filled ps (pathsBytes ms)
   pub node-store : ns′ ≡ nodes
 

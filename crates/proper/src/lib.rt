@@ -10,12 +10,6 @@ ghost use Rattle.proper.specs.Walked.{Seen};
 use siblings::Rising;
 use slices::Ends;
 
-// The deepest level of a proper table.
-const DEPTH_LIMIT: usize = 64;
-
-// One more than the largest count.
-const COUNT_HALF: u64 = 2147483648;
-
 // Whether node 0 has no parent, or another an earlier one.
 fn parent_fits(nodes: &[u8], i: usize) -> bool
     ensures { λ r. ⌜ r ≡ parentFits (now (nodes .entry)) i ⌝ }
@@ -35,7 +29,7 @@ fn count_fits(nodes: &[u8], i: usize) -> bool
     if count == node::MINUS_ONE {
         return true;
     }
-    count < COUNT_HALF
+    count < node::COUNT_HALF
 }
 
 // Whether a name holds no NUL.
@@ -84,7 +78,7 @@ fn node_fits(nodes: &[u8], names: &[u8], i: usize) -> bool
     if parent_fits(nodes, i) {
         if count_fits(nodes, i) {
             if name_fits(nodes, names, i) {
-                return climbs(nodes, DEPTH_LIMIT, i);
+                return climbs(nodes, format::DEPTH_LIMIT, i);
             }
             return false;
         }

@@ -13,6 +13,7 @@ use Rattle.wire.specs.Places.{fileAt}
 use Rattle.wire.specs.declared.FileAt.{FileAt}
 use Rattle.wire.specs.declared.PathAt.{PathAt}
 use Rattle.refusal.specs.Refusal.{not-spelled, no-entry-room, no-stage, path-outside, not-after, short-output, too-large, not-proper}
+use Rattle.format.specs.Format.{depthLimit}
 use Rattle.format.specs.Format.{headerSize, idSize}
 use Rattle.sha1.specs.Sha1.{sha1}
 use Rattle.decode.specs.Entries as entries
@@ -22,7 +23,6 @@ use Rattle.file.specs.Answer.{numberOf}
 use Rattle.file.specs.Read as file
 use Rattle.file.specs.declared.Answer.{Answer}
 use Rattle.file.specs.declared.Answer.the-variants as answer
-use Rattle.tree.specs.Tree.{depthLimit}
 use Rattle.write.specs.File as write
 use Rattle.write.specs.declared.Options.{Options}
 use Rattle.write.specs.declared.Answer.{Answer as Written}

@@ -13,9 +13,6 @@ ghost use Rattle.tree_write.specs.Tree.{countBytes, frontBytes, numberBy
 
 mod runs;
 
-// The deepest level that is written.
-const DEPTH_LIMIT: usize = 64;
-
 // Writes src at `at`, and answers where it ends.
 fn put_bytes(src: &[u8], out: &mut [u8], at: usize) -> usize
     requires { ⌜ at + length (now src) ≤ length (now out) ⌝ }
@@ -271,7 +268,7 @@ pub fn tree_size(nodes: &[u8], names: &[u8]) -> usize
     ensures { λ r. ⌜ r ≡ cap (length (treeBytes 20 64 (now (nodes .entry)) (now (names .entry)))) ⌝ }
 {
     let walk = walk_order::in_walk_order(nodes);
-    node_size(nodes, names, walk, 0, DEPTH_LIMIT)
+    node_size(nodes, names, walk, 0, format::DEPTH_LIMIT)
 }
 
 // Writes the tree of a table at `at`; nothing where it does not fit.
@@ -283,9 +280,9 @@ pub fn put_tree(nodes: &[u8], names: &[u8], out: &mut [u8], at: usize)
     }
     let room = out.len() - at;
     let walk = walk_order::in_walk_order(nodes);
-    let size = node_size(nodes, names, walk, 0, DEPTH_LIMIT);
+    let size = node_size(nodes, names, walk, 0, format::DEPTH_LIMIT);
     if room < size {
         return;
     }
-    put_node(nodes, names, walk, 0, out, at, DEPTH_LIMIT);
+    put_node(nodes, names, walk, 0, out, at, format::DEPTH_LIMIT);
 }

@@ -3,15 +3,12 @@
 ghost use mathlib.Core.Path.{_≡_};
 ghost use Rattle.walk_order.specs.Walk.{climbsTo, walks, nextChild};
 
-// The deepest level that is climbed from: no proper table is deeper.
-const DEPTH_LIMIT: usize = 64;
-
 // Whether `to` is `from`, or is reached from there by parents.
 fn climbs_to(nodes: &[u8], from: usize, to: usize) -> bool
     ensures { λ r. ⌜ r ≡ climbsTo (now (nodes .entry)) 64 from to ⌝ }
 {
     let mut node = from;
-    let mut left = DEPTH_LIMIT;
+    let mut left = format::DEPTH_LIMIT;
     while 0 < left {
         if node <= to {
             return node == to;
