@@ -1,7 +1,7 @@
 -- DEMAND 3, on whole files. With a good header, a good trailer, room for the entries before the first not spelled and a walk of the last TREE that stays within the depth limit and the nodes
 -- lent: the reader accepts a file exactly if the grammar spells it; answer and stores are the rendering of the one meaning; and each refusal is given exactly when. Assumes that the
 -- file is bytes and that no slice has 2^64 bytes or more, the premise `Slices`.
-use Prim.Native.Nat.{ℕ, suc, _+_, _≤_, _<_}
+use Prim.Native.Nat.{ℕ, _+_, _≤_, _<_}
 use mathlib.Core.Path.{_≡_, refl, sym, ap, _∙_, subst}
 use mathlib.Core.Bool.{Bool, true, false}
 use mathlib.Core.List.{List, _++_}
@@ -9,7 +9,6 @@ use mathlib.Core.Logic.{_↔_}
 use mathlib.Core.Option.{Option, none, some}
 use native.Mathlib.Omega.{arith}
 use lib.ListN.{length, take}
-use Rattle.laws.specs.Read.{Begins}
 use Rattle.format.specs.Format.{depthLimit, idSize}
 use Rattle.file.specs.Read.{Outcome, outcome, readFile}
 use Rattle.file.specs.declared.Answer.{Answer}
@@ -17,18 +16,18 @@ use Rattle.file.specs.declared.Answer.the-variants as answer
 use Rattle.grammar.specs.Number.{bigEndian}
 use Rattle.grammar.specs.Entry.{Meaning, start, Entries}
 use Rattle.grammar.specs.Extension.{Ext, TREE, Extensions, NoneSigned, LastSigned}
-use Rattle.grammar.specs.Tree.{Tree, nodes, depth, Node}
+use Rattle.grammar.specs.Tree.{Tree, nodes}
 use Rattle.grammar.specs.File.{Index, DIRC, headerLength, Supported, Sparse, Tells, CacheTree, spelled, malformed, absent, File, versionOf, countOf, space, GoodHeader}
 use Rattle.grammar.specs.Space.{Spells, spells, spelled-in-space, space-spelled}
 use Rattle.grammar.specs.Fault.{stray, refused, Faulty}
 use Rattle.grammar.specs.Reach.{depth-within, nodes-within}
 use Rattle.grammar.specs.Unique.{one-meaning}
 use Rattle.claims_entries.specs.Rendering.{recordsBytes, pathsBytes}
-use Rattle.claims_entries.specs.Said.{filled, Fits, Lacks, StopsAt, RoomFor, LacksRoomAt}
+use Rattle.claims_entries.specs.Said.{filled, StopsAt, RoomFor, LacksRoomAt}
 use Rattle.claims_tree.specs.Rendering.{treeBytes}
 use Rattle.claims_tree.specs.Said.{zeroed, lent, GoesTooDeep, UsesUp, SpellsTree, KeepsWithinDepth, HasRoom}
 use Rattle.claims.specs.Premises.{Slices, GoodTrailer}
-use Rattle.claims.specs.Said.{Opened, holding, readAs, AllEntries, WithTree, SaysFile, says-short, says-no-signature, says-other-version, says-bad-trailer, says-not-spelled, says-no-entry-room, says-not-filled, says-mandatory, says-no-TREE, says-tree, says-malformed, says-too-deep, says-no-node-room}
+use Rattle.claims.specs.Said.{Opened, holding, AllEntries, WithTree, SaysFile, says-short, says-no-signature, says-other-version, says-bad-trailer, says-not-spelled, says-no-entry-room, says-not-filled, says-mandatory, says-no-TREE, says-tree, says-malformed, says-too-deep, says-no-node-room}
 use Rattle.claims.specs.Reading as reader
 
 -- ---- of the file, in the grammar's terms

@@ -1,35 +1,32 @@
 -- THE READER'S ANSWER of a whole file, `readFile`, which its contract cites, is one of which its rule holds, and the only one. Assumes that the file is bytes and that no slice has 2^64
 -- bytes or more, a premise with a name.
-use Prim.Native.Nat.{ℕ, _+_, _-_, _≤_, _<_}
+use Prim.Native.Nat.{ℕ, _+_, _-_, _≤_}
 use mathlib.Core.Path.{_≡_, refl, sym, ap, _∙_, subst}
 use mathlib.Core.Bool.{Bool, true, false}
-use mathlib.Core.List.{List, _++_}
+use mathlib.Core.List.{List}
 use native.Mathlib.Omega.{arith}
 use lib.Dec.{lit≤}
 use lib.ListN.{length, take, drop, length-append, length-drop}
 use lib.Seq.{drop-at, drop-drop, length-take-le}
 use Rattle.laws.specs.Pick.{pick}
-use Rattle.wire.specs.Places.{fileAt, pathAt}
 use Rattle.format.specs.Format.{depthLimit, idSize}
 use Rattle.decode.specs.Header.{headerAt}
 use Rattle.decode.specs.Entries as ran
 use Rattle.decode.specs.declared.header.Header.{Header as Opening}
-use Rattle.decode.specs.declared.header.Header.the-variants.{Opens, ShortFile, NoSignature, OtherVersion}
 use Rattle.extension.specs.Signatures as reader
 use Rattle.extension.specs.Decode.{walkAt}
 use Rattle.extension.specs.declared.iter.Body.{Body}
-use Rattle.extension.specs.declared.iter.Body.the-variants.{Lies, Missing}
 use Rattle.extension.specs.declared.decode.Walked.{Walked}
 use Rattle.extension.specs.declared.decode.Walked.the-variants as walked
 use Rattle.tree.specs.Tree.{readTree}
 use Rattle.tree.specs.declared.TreeAnswer.{TreeAnswer}
 use Rattle.tree.specs.declared.TreeAnswer.the-variants as grown
 use Rattle.file.specs.Trailer.{goodTrailer}
-use Rattle.file.specs.Read.{Outcome, outcome, marked, grownInto, onWalked, extensionsInto, withNodes, afterEntries, entriesInto, readFile}
+use Rattle.file.specs.Read.{Outcome, grownInto, onWalked, extensionsInto, withNodes, afterEntries, entriesInto, readFile}
 use Rattle.file.specs.declared.Entries.{Entries as Sofar}
 use Rattle.file.specs.declared.Answer.the-variants as answer
-use Rattle.grammar.specs.Entry.{Meaning, start, Entries}
-use Rattle.grammar.specs.Extension.{Ext, TREE, Extensions, NoneSigned, LastSigned}
+use Rattle.grammar.specs.Entry.{Meaning}
+use Rattle.grammar.specs.Extension.{Ext, TREE, Extensions, LastSigned}
 use Rattle.grammar.specs.File.{headerLength, Sparse, Tells, versionOf, countOf, space, GoodHeader}
 use Rattle.grammar.specs.DecideFile.{tells-unique}
 use Rattle.claims_entries.specs.Rendering.{recordsBytes, pathsBytes, sparseBy, sparse-tells}
@@ -40,7 +37,7 @@ use Rattle.claims_extension.specs.Claims as extensions
 use Rattle.claims_extension.specs.Body.{BodyAt}
 use Rattle.claims_tree.specs.Said as tree
 use Rattle.claims_tree.specs.Claims as trees
-use Rattle.claims.specs.Premises.{Slices, GoodTrailer}
+use Rattle.claims.specs.Premises.{Slices}
 use Rattle.claims.specs.Header.{trailer-exactly, says-short, says-no-signature, says-other-version, says-opens, SaysHeader, header-says, one-header}
 use Rattle.claims.specs.Said as said
 

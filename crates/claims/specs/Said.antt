@@ -1,6 +1,6 @@
 -- WHAT EACH ANSWER SAYS of a whole file, and what the three stores hold then, in the grammar's terms (01, "When the desk says no"). One rule an answer. Of the reader only its answers
 -- and the outcome are named here. Assumes nothing.
-use Prim.Native.Nat.{ℕ, _+_, _^_, _≤_, _<_}
+use Prim.Native.Nat.{ℕ, _+_, _≤_, _<_}
 use mathlib.Core.Path.{_≡_}
 use mathlib.Core.Bool.{Bool, true, false}
 use mathlib.Core.List.{List, _++_}

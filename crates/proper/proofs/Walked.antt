@@ -5,7 +5,6 @@ use mathlib.Core.Logic.{_⊎_, inl, inr, ⊎-elim}
 use mathlib.Core.List.{List}
 use Prim.Native.Nat.{ℕ, zero, suc, _+_, _-_, _≤_, _<_}
 use native.Mathlib.Omega.{arith}
-use lib.ListN.{length}
 use borrow.Author.Tests.{eq-eqb, ne-eqb}
 use Rattle.laws.specs.Pick.{pick}
 use Rattle.laws.specs.Tests.{lt-or-ge}
@@ -16,7 +15,7 @@ use Rattle.walk_order.specs.Child.{Next, next-first, child-behind, is-walk}
 use Rattle.siblings.specs.declared.Rising.{Rising}
 use Rattle.siblings.specs.Siblings.{isChild, siblingsDiffer}
 use Rattle.siblings.specs.Rising.{risen}
-use Rattle.siblings.specs.InOrder.{Distinct, distinct-differ, differ-distinct, GitBefore, Ordered, Grows, SoFar, so-far-start, so-far-more, bytes-differ, git-differ}
+use Rattle.siblings.specs.InOrder.{distinct-differ, differ-distinct, GitBefore, Ordered, Grows, SoFar, so-far-start, so-far-more, bytes-differ, git-differ}
 use Rattle.proper.specs.declared.WalkedKids.{WalkedKids}
 use Rattle.proper.specs.Proper.{childCount, kidsFit}
 use Rattle.proper.specs.Walked.{Seen}

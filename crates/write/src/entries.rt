@@ -2,11 +2,11 @@
 ghost use mathlib.Core.Path.{_≡_};
 ghost use Prim.Native.Nat.{_+_, _*_, _-_, _/_, _≤_, _<_};
 ghost use mathlib.Core.List.{_++_};
-ghost use lib.ListN.{length, take};
+ghost use lib.ListN.{length};
 ghost use Rattle.laws.specs.Put.{put};
 ghost use Rattle.wire.specs.BigEndian.{bytesOf};
 ghost use Rattle.entry.specs.Flags.{toStorage, extendedToStorage};
-ghost use Rattle.entry.specs.Record.{recordsIn, flagsAt, pathAt};
+ghost use Rattle.entry.specs.Record.{recordsIn, flagsAt};
 ghost use Rattle.write.specs.Entries.{faultOf, stated, fixedOf, frontAt, wholeOf, entryOf, recordBytes, beforeAt, tableBytes, keptOf, versionWith, sizeTable};
 
 // What sizing comes to: the version, how many records are written, and into how many bytes with the header; or the first record whose path is not in the store.
