@@ -90,18 +90,16 @@ impl<'a> Tree<'a> {
     /// Whether as many entries lie below each folder as it says, in a table that is in order.
     pub(crate) fn check(&self, entries: &Entries<'_>) -> Result<(), TreeFault> {
         for (i, node) in self.nodes().enumerate() {
+            let Some(says) = node.entries else { continue };
             let mut folder = self.path(i);
             if node.parent.is_some() {
                 folder.push(b'/');
             }
-            let (before, below) = (
-                entries.split(|path| path < &folder),
-                entries.split(|path| path < &folder || path.starts_with(&folder)),
-            );
-            let there = below.saturating_sub(before);
-            match node.entries {
-                Some(says) if says as usize != there => return Err(TreeFault::Count { folder, says, there }),
-                _ => (),
+            let before = entries.split(|path| path < &folder);
+            let with_those_below = entries.split(|path| path < &folder || path.starts_with(&folder));
+            let there = with_those_below.saturating_sub(before);
+            if says as usize != there {
+                return Err(TreeFault::Count { folder, says, there });
             }
         }
         Ok(())

@@ -169,3 +169,18 @@ fn paths_of_any_bytes_are_json() {
         assert_eq!(lines.iter().filter(|byte| **byte == b'\n').count(), 1);
     }
 }
+
+/// A file of 200,000 bytes that spells out 150 million, where there is memory for fewer: an answer, and no abort.
+#[test]
+fn missing_memory_is_told() {
+    let more = (0..1500).map(|i| common::entry4(u8::from(i > 0), &[1 + (i % 250) as u8]));
+    let entries: Vec<u8> = std::iter::once(common::entry4(0, &[b'p'; 100_000])).chain(more).flatten().collect();
+    let here = folder("memory");
+    std::fs::write(here.join("index"), file(4, 1501, &[&entries])).unwrap();
+    let mut shell = common::clean("sh", &here);
+    shell.args(["-c", "ulimit -v 150000; exec \"$0\" list index", env!("CARGO_BIN_EXE_sparrowpivot")]);
+    let output = common::run(shell, b"");
+    let said = String::from_utf8(output.stderr).unwrap();
+    assert_eq!(output.status.code(), Some(1), "{said}");
+    assert!(said.starts_with("sparrowpivot: index: there is no memory for ") && output.stdout.is_empty(), "{said}");
+}

@@ -31,6 +31,7 @@ pub struct Lock {
     out: PathBuf,
     name: PathBuf,
     file: File,
+    held: bool,
 }
 
 impl Lock {
@@ -42,7 +43,7 @@ impl Lock {
         name.push(".lock");
         let name = PathBuf::from(name);
         match OpenOptions::new().write(true).create_new(true).open(&name) {
-            Ok(file) => Ok(Lock { out, name, file }),
+            Ok(file) => Ok(Lock { out, name, file, held: true }),
             Err(why) if why.kind() == io::ErrorKind::AlreadyExists => {
                 Err(format!("{} is there: another program is at work on it", name.display()))
             }
@@ -62,13 +63,17 @@ impl Lock {
             self.file.set_permissions(old.permissions())?;
         }
         self.file.sync_all()?;
-        fs::rename(&self.name, &self.out)
+        fs::rename(&self.name, &self.out)?;
+        // a lock of this name is another's from now on
+        self.held = false;
+        Ok(())
     }
 }
 
 impl Drop for Lock {
     fn drop(&mut self) {
-        // after renaming there is nothing left to remove
-        let _ = fs::remove_file(&self.name);
+        if self.held {
+            let _ = fs::remove_file(&self.name);
+        }
     }
 }
