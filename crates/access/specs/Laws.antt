@@ -253,11 +253,12 @@ module _ (a b : List ℕ) (from k : ℕ) (e : k ≡ from + agreeing (drop from a
       byte-b : getD rest-b (agreeing rest-a rest-b) 0 ≡ getD b k 0
       byte-b = getD-drop from b (agreeing rest-a rest-b) 0 ∙ ap (λ (n : ℕ). getD b n 0) (sym e)
 
-      pub from-less : getD a k 0 < getD b k 0 → Less ≡ orderOf (compared rest-a rest-b)
-      from-less m = compare-less rest-a rest-b (agreeing rest-a rest-b) refl (omega (arith, length-drop from a)) (omega (arith, length-drop from b)) (omega (arith, byte-a, byte-b))
+      module _ (x y : ℕ) (ex : x ≡ getD a k 0) (ey : y ≡ getD b k 0) where
+        pub from-less : x < y → Less ≡ orderOf (compared rest-a rest-b)
+        from-less m = compare-less rest-a rest-b (agreeing rest-a rest-b) refl (omega (arith, length-drop from a)) (omega (arith, length-drop from b)) (omega (arith, byte-a, byte-b))
 
-      pub from-greater : getD b k 0 ≤ getD a k 0 → Greater ≡ orderOf (compared rest-a rest-b)
-      from-greater m = compare-greater rest-a rest-b (agreeing rest-a rest-b) refl (omega (arith, length-drop from a)) (omega (arith, length-drop from b)) (omega (arith, byte-a, byte-b))
+        pub from-greater : y ≤ x → Greater ≡ orderOf (compared rest-a rest-b)
+        from-greater m = compare-greater rest-a rest-b (agreeing rest-a rest-b) refl (omega (arith, length-drop from a)) (omega (arith, length-drop from b)) (omega (arith, byte-a, byte-b))
 
 -- the whole, from what stands behind k
 module _ (a b : List ℕ) (e : Eights) (k : ℕ) (eights : EightsOf a b e) where
@@ -394,9 +395,9 @@ pub found-up : (p : ℕ → Probe) (n low high k m : ℕ) (r : Found) → halve 
     → halve p (n - (k + 1)) low m (k + 1) ≡ r
 found-up p n low high k m r inv w l a e q o y z = rw q (found-high p n low high k r inv w l a (rw q at e) o y z)
 
-pub search-start : (rs ps key : List ℕ) (stage n : ℕ) → n ≡ recordsIn rs → halve (probeAt rs ps key stage) (n - 0) 0 n 0 ≡ searchAt rs ps key stage
+pub search-start : (rs ps key : List ℕ) (stage n high : ℕ) → n ≡ recordsIn rs → high ≡ n → halve (probeAt rs ps key stage) (n - 0) 0 high 0 ≡ searchAt rs ps key stage
 unfolding searchAt
-search-start rs ps key stage n e = rw (sub-zero n, e)
+search-start rs ps key stage n high e h = rw (h, sub-zero n, e)
 
 module _ (rs ps key : List ℕ) (stage : ℕ) where
   pub lookup-far : 3 < stage → NoStage ≡ lookupAt rs ps key stage

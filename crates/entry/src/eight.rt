@@ -1,5 +1,5 @@
-// Eight bytes as one number, the upper first. The bytes are put together as this machine stores numbers, and then turned: the compiler makes one load and one turn of
-// that, also where the number goes into sums, and it weighs little where a caller's loop is inlined.
+// Eight bytes as one number, the upper first. They are put together with the lower first, as the processor has them, and then turned: the compiler makes of that one
+// load and one turn of the bytes, also where the number goes into sums, and it is little enough that callers' loops are inlined.
 ghost use mathlib.Core.Path.{_≡_};
 ghost use Prim.Native.Nat.{_+_, _*_, _/_, _%_};
 ghost use Rattle.entry.specs.Eight.{four, turnedFour};
