@@ -6,7 +6,6 @@ ghost use Prim.Native.Nat.{_+_, _-_, _≤_, _<_};
 ghost use lib.ListN.{length};
 ghost use Rattle.laws.specs.Put.{put};
 ghost use Rattle.sums.specs.Cap.{cap};
-ghost use Rattle.node.specs.Store.{countAt};
 ghost use Rattle.walk_order.specs.Walk.{walks};
 ghost use Rattle.tree_write.specs.Order.{before};
 ghost use Rattle.tree_write.specs.Tree.{countBytes, frontBytes, numberBytes, idBytes, headBytes, after, ahead, better, nextKid, nodeBytes, treeBytes, putFit};

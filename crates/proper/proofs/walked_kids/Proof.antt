@@ -1,7 +1,7 @@
 -- `proper::walked_kids` meets its contract. The invariant: the children that are passed are counted and compared. Assumes nothing.
 use Prim.Native.Nat.{_-_}
 use Rattle.node.specs.Store.{nodesIn}
-use Rattle.proper.proofs.Walked.{Seeing, seeing-less}
+use Rattle.proper.proofs.Walked.{Seeing}
 use borrow.Author.Needs.{needs}
 use Rattle.proper.proofs.Walked.{walked-laws}
 use Rattle.proper.proofs.walked_kids.Statement.{statement}

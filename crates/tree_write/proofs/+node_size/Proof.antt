@@ -1,9 +1,7 @@
 -- `tree_write::node_size` meets its contract. The measure is the depth. The loop's invariant: the size so far and that of the children that are left make up the whole size, and the runs are those of
 -- the children that are left. Assumes nothing.
-use native.Mathlib.Omega.{arith}
 use mathlib.Core.Path.{_≡_}
-use Prim.Native.Nat.{_≤_, _-_, _+_, _*_}
-use native.Mathlib.Nat.{pos-of-ne-zero}
+use Prim.Native.Nat.{_≤_, _-_, _+_}
 use lib.ListN.{length}
 use Rattle.sums.specs.Cap.{cap, largest}
 use Rattle.tree_write.specs.Tree.{kids, each, nodeBytes}

@@ -2,8 +2,8 @@
 -- the runs are those of the children that are left. Assumes nothing.
 use native.Mathlib.Omega.{arith}
 use native.Mathlib.Nat.{pos-of-ne-zero}
-use mathlib.Core.Path.{_≡_, refl}
-use Prim.Native.Nat.{_≤_, _-_, _+_, _*_}
+use mathlib.Core.Path.{_≡_}
+use Prim.Native.Nat.{_≤_, _-_, _+_}
 use lib.ListN.{length}
 use Rattle.laws.specs.Put.{put}
 use Rattle.tree_write.specs.Tree.{kids, each, nodeBytes}

@@ -1,7 +1,7 @@
 -- `tree_write::runs::runs_of` meets its contract. The invariant: the children that are passed stand in the runs so far. Assumes nothing.
 use Prim.Native.Nat.{_-_}
 use Rattle.node.specs.Store.{nodesIn}
-use Rattle.tree_write.proofs.Merge.{Begun, begun-less}
+use Rattle.tree_write.proofs.Merge.{Begun}
 use borrow.Author.Needs.{needs}
 use Rattle.tree_write.proofs.Merge.{runs-laws}
 use Rattle.tree_write.proofs.runs.runs_of.Statement.{statement}
