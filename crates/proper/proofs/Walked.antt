@@ -56,6 +56,12 @@ module _ (names ns : List ℕ) (p used u : ℕ) (on : used ≤ u) (none : Childl
     git = λ e. ordered-past GitBefore (so .last) (o .git e);
   }
 
+-- tests that hold together are one
+same-truth : (a b : Bool) → (a ≡ true → b ≡ true) → (b ≡ true → a ≡ true) → a ≡ b
+same-truth true b f g = sym (f refl)
+same-truth false true f g = g refl
+same-truth false false f g = refl
+
 -- ---- the pass
 
 -- the children of p up to x are counted and compared, and y is the next one
@@ -132,22 +138,30 @@ module _ (ns nm : List ℕ) (p : ℕ) (w : walks 64 ns ≡ true) where
           let n : childCount ns p (nodesIn ns - nodesIn ns) (nodesIn ns) ≡ 0 = rw z in
           omega (arith, inv .run)
 
-      whole : SoFar nm ns p (nodesIn ns) so
-      whole = so-far-past nm ns p (x + 1) (nodesIn ns) (omega (arith, inv .high)) rest so (inv .order)
-
-      -- children stand behind p, so it is enough that those differ
-      widen : true ≡ siblingsDiffer nm ns p (p + 1) (nodesIn ns) → siblingsDiffer nm ns p 1 (nodesIn ns) ≡ true
-      widen e =
-          sym (distinct-differ nm ns p 1 (nodesIn ns) (λ i j a b c q r.
-          let up : p < j = behind j (omega arith) (omega arith) r in
-          differ-distinct nm ns p (p + 1) (nodesIn ns) (sym e) i j (omega arith) b c q r))
-
-      pub seeing-end : (rising : Bool) → rising ≡ pick (so .bytes) true (so .git) → Seen ns nm p (record { count = count; rising = rising })
-      seeing-end rising e = record { count = all-counted; differ = λ h. widen (by (so .bytes) refl (so .git) refl (sym e ∙ h)) }
+      -- the children all stand behind p and not behind x
+      narrow : siblingsDiffer nm ns p (p + 1) (x + 1) ≡ siblingsDiffer nm ns p 1 (nodesIn ns)
+      narrow = same-truth (siblingsDiffer nm ns p (p + 1) (x + 1)) (siblingsDiffer nm ns p 1 (nodesIn ns)) widen shrink
         where
-          by : (s : Bool) → so .bytes ≡ s → (t : Bool) → so .git ≡ t → pick s true t ≡ true → true ≡ siblingsDiffer nm ns p (p + 1) (nodesIn ns)
-          by true es t et q = bytes-differ nm ns p (nodesIn ns) so whole es
-          by false es t et q = git-differ nm ns p (nodesIn ns) so whole (et ∙ q)
+          up-to : (i : ℕ) → i < nodesIn ns → parentAt ns i ≡ p → i < x + 1
+          up-to i l q = ⊎-elim (λ h. h) (λ h. absurd (rest i h l q)) (lt-or-ge i (x + 1))
+
+          widen : siblingsDiffer nm ns p (p + 1) (x + 1) ≡ true → siblingsDiffer nm ns p 1 (nodesIn ns) ≡ true
+          widen e =
+              sym (distinct-differ nm ns p 1 (nodesIn ns) (λ i j a b c q r.
+              let up : p < j = behind j (omega arith) (omega arith) r in
+              differ-distinct nm ns p (p + 1) (x + 1) e i j (omega arith) b (up-to i c q) q r))
+
+          shrink : siblingsDiffer nm ns p 1 (nodesIn ns) ≡ true → siblingsDiffer nm ns p (p + 1) (x + 1) ≡ true
+          shrink e =
+              let high : x < nodesIn ns = inv .high in
+              sym (distinct-differ nm ns p (p + 1) (x + 1) (λ i j a b c q r. differ-distinct nm ns p 1 (nodesIn ns) e i j (omega arith) b (omega arith) q r))
+
+      pub seeing-end : (rising : Bool) → rising ≡ pick (so .bytes) true (so .git) → Seen ns nm p (record { count = count; last = x; rising = rising })
+      seeing-end rising e = record { count = all-counted; inside = inv .high; narrow = narrow; differ = λ h. sym narrow ∙ sym (by (so .bytes) refl (so .git) refl (sym e ∙ h)) }
+        where
+          by : (s : Bool) → so .bytes ≡ s → (t : Bool) → so .git ≡ t → pick s true t ≡ true → true ≡ siblingsDiffer nm ns p (p + 1) (x + 1)
+          by true es t et q = bytes-differ nm ns p (x + 1) so (inv .order) es
+          by false es t et q = git-differ nm ns p (x + 1) so (inv .order) (et ∙ q)
 
 -- ---- what it settles
 
@@ -161,8 +175,8 @@ module _ (ns nm : List ℕ) (i said : ℕ) (kids : WalkedKids) (es : said ≡ su
     unfolding kidsFit
     seen-rising k = sym (rw (← es, ← (seen .count), eq-eqb said (kids .count) h) (seen .differ k))
 
-    pub seen-compared : (t : Bool) → t ≡ siblingsDiffer nm ns i 1 (nodesIn ns) → t ≡ kidsFit ns nm i
+    pub seen-compared : (t : Bool) → t ≡ siblingsDiffer nm ns i (i + 1) (kids .last + 1) → t ≡ kidsFit ns nm i
     unfolding kidsFit
-    seen-compared t q = q ∙ sym (rw (← es, ← (seen .count), eq-eqb said (kids .count) h))
+    seen-compared t q = q ∙ seen .narrow ∙ sym (rw (← es, ← (seen .count), eq-eqb said (kids .count) h))
 
 pub ruleset walked-laws = (is-walk, seeing-start, seeing-less, seeing-more, seeing-end, seen-miscounted, seen-rising, seen-compared)

@@ -125,9 +125,10 @@ fn either(a: bool, b: bool) -> bool
     if a { true } else { b }
 }
 
-// A node's children: how many, and whether they stand in byte order or in git's own order, so that their names differ.
+// A node's children: how many, the last of them or the node itself, and whether they stand in byte order or in git's own order, so that their names differ.
 pub struct WalkedKids {
     pub count: u64,
+    pub last: usize,
     pub rising: bool,
 }
 
@@ -151,24 +152,30 @@ fn walked_kids(nodes: &[u8], names: &[u8], p: usize) -> WalkedKids
         y = walk_order::next_child(nodes, p, x);
     }
     let rising = either(so.bytes, so.git);
-    WalkedKids { count, rising }
+    WalkedKids {
+        count,
+        last: x,
+        rising,
+    }
 }
 
-// The same as table_kids_fit, in a table in walk order: only children in no order that is known are compared in pairs.
+// The same as table_kids_fit, in a table in walk order: only children in no order that is known are compared in pairs, among the nodes up to the last of them.
 fn walked_kids_fit(nodes: &[u8], names: &[u8], i: usize) -> bool
     requires { ⌜ (walks 64 (now nodes) ≡ true) × (i < nodesIn (now nodes)) ⌝ }
     ensures { λ r. ⌜ r ≡ kidsFit (now (nodes .entry)) (now (names .entry)) i ⌝ }
 {
-    let n = nodes.len() / node::NODE_SIZE;
     let said = node::subtrees(nodes, i);
     let seen = walked_kids(nodes, names, i);
     let count = seen.count;
+    let last = seen.last;
     let rising = seen.rising;
     if said == count {
         if rising {
             return true;
         }
-        return siblings::siblings_differ(names, nodes, i as u64, 1, n);
+        let first = i + 1;
+        let end = last + 1;
+        return siblings::siblings_differ(names, nodes, i as u64, first, end);
     }
     false
 }

@@ -5,7 +5,7 @@ use mathlib.Core.Logic.{_⊎_, inl, inr, ⊎-elim}
 use mathlib.Core.List.{List}
 use Prim.Native.Nat.{ℕ, zero, suc, _+_, _-_, _≤_, _<_}
 use native.Mathlib.Omega.{arith}
-use lib.ListN.{length, getD, set, length-set, replicate, length-replicate}
+use lib.ListN.{length, getD, set, length-set}
 use lib.Seq.{getD-set-same, getD-set-other}
 use borrow.Author.Tests.{eq-eqb, ne-eqb}
 use Rattle.laws.specs.Pick.{pick}
@@ -185,8 +185,8 @@ least-next ns nm p last used heads c r l = by (zero-or r) (zero-or b)
     by (inr e) (inr q) =
         ⊎-elim (λ z. z) (⊎-elim (λ z. absurd (best .least r (omega (arith, kept e .0)) (kept e .1) z)) (λ z. absurd (not-first q z))) (before-total ns nm r b)
 
-pub ready-next : (ns nm : List ℕ) (p last : ℕ) (runs : Runs) → Ready ns nm p last runs → runs .quick ≡ true → (r : ℕ) → Least ns nm (runs .used) (runs .heads) r → r ≡ nextKid ns nm p last
-ready-next ns nm p last runs h q r l = least-next ns nm p last (runs .used) (runs .heads) (h .covers q) r l
+pub ready-next : (ns nm : List ℕ) (p last : ℕ) (runs : Runs) (heads : List ℕ) → Ready ns nm p last runs heads → runs .quick ≡ true → (r : ℕ) → Least ns nm (runs .used) heads r → r ≡ nextKid ns nm p last
+ready-next ns nm p last runs heads h q r l = least-next ns nm p last (runs .used) heads (h .covers q) r l
 
 -- ---- a step
 
@@ -238,13 +238,13 @@ module _ (kid next used : ℕ) (old : List ℕ) where
         by : {i : ℕ} → k ≡ i → getD new i 0 ≡ movedTo kid next (getD old i 0)
         by m = subst (λ (x : ℕ). getD new x 0 ≡ movedTo kid next (getD old x 0)) m here
 
-pub moving-end : (kid next k : ℕ) (runs : Runs) (new : List ℕ) → Moving kid next (runs .used) k (runs .heads) new → runs .used ≤ k → Moved kid next runs (record { quick = runs .quick; used = runs .used; heads = new })
-moving-end kid next k runs new inv h = record { quick = refl; used = refl; long = inv .long; heads = λ i l. inv .done i (omega arith) }
+pub moving-end : (kid next used k : ℕ) (old new : List ℕ) → Moving kid next used k old new → used ≤ k → Moved kid next used old new
+moving-end kid next used k old new inv h = record { long = inv .long; heads = λ i l. inv .done i (omega arith) }
 
-pub stepped : (ns nm : List ℕ) (p kid next : ℕ) (a b : Runs) → next ≡ follow ns nm p kid → Moved kid next a b → Stepped ns nm p kid a b
-stepped ns nm p kid next a b e h = subst (λ (x : ℕ). Moved kid x a b) e h
+pub stepped : (ns nm : List ℕ) (p kid next used : ℕ) (old new : List ℕ) → next ≡ follow ns nm p kid → Moved kid next used old new → Stepped ns nm p kid used old new
+stepped ns nm p kid next used old new e h = subst (λ (x : ℕ). Moved kid x used old new) e h
 
-module _ (ns nm : List ℕ) (p last kid : ℕ) (a b : Runs) (c : Covers ns nm p last (a .used) (a .heads)) (is : kid ≡ nextKid ns nm p last) (real : kid ≡ 0 → ⊥) (m : Stepped ns nm p kid a b) where
+module _ (ns nm : List ℕ) (p last kid used : ℕ) (old new : List ℕ) (c : Covers ns nm p last used old) (is : kid ≡ nextKid ns nm p last) (real : kid ≡ 0 → ⊥) (m : Stepped ns nm p kid used old new) where
   abbrev bound : ℕ
   bound = 1 + (nodesIn ns - 1)
 
@@ -270,43 +270,42 @@ module _ (ns nm : List ℕ) (p last kid : ℕ) (a b : Runs) (c : Covers ns nm p 
   other-live head d (l, k) =
       (l, record { real = k .real; child = k .child; past = ⊎-elim (λ e. absurd (d e)) (⊎-elim (λ e. absurd (best .least head (omega arith) k e)) (λ e. before-after ns nm p kid head e)) (before-total ns nm head kid) })
 
-  step-live : (i : ℕ) → i < b .used → (getD (b .heads) i 0 ≡ 0 → ⊥) → (getD (b .heads) i 0 < nodesIn ns) × Cand ns nm p kid (getD (b .heads) i 0)
+  step-live : (i : ℕ) → i < used → (getD new i 0 ≡ 0 → ⊥) → (getD new i 0 < nodesIn ns) × Cand ns nm p kid (getD new i 0)
   step-live i l h =
-      let in-a : i < a .used = omega (arith, m .used) in
-      let e : getD (b .heads) i 0 ≡ movedTo kid next (getD (a .heads) i 0) = m .heads i in-a in
-      subst (λ (x : ℕ). (x < nodesIn ns) × Cand ns nm p kid x) (sym e) (by (same? (getD (a .heads) i 0) kid) (λ z. h (e ∙ z)) in-a)
+      let e : getD new i 0 ≡ movedTo kid next (getD old i 0) = m .heads i l in
+      subst (λ (x : ℕ). (x < nodesIn ns) × Cand ns nm p kid x) (sym e) (by (same? (getD old i 0) kid) (λ z. h (e ∙ z)))
     where
-      by : {s : Bool} → Same (getD (a .heads) i 0) kid s → (pick s next (getD (a .heads) i 0) ≡ 0 → ⊥) → i < a .used → (pick s next (getD (a .heads) i 0) < nodesIn ns) × Cand ns nm p kid (pick s next (getD (a .heads) i 0))
-      by (same e) q u = next-live q
-      by (differs e) q u = other-live (getD (a .heads) i 0) e (c .live i u q)
+      by : {s : Bool} → Same (getD old i 0) kid s → (pick s next (getD old i 0) ≡ 0 → ⊥) → (pick s next (getD old i 0) < nodesIn ns) × Cand ns nm p kid (pick s next (getD old i 0))
+      by (same e) q = next-live q
+      by (differs e) q = other-live (getD old i 0) e (c .live i l q)
 
   run-rest : {head j : ℕ} → Run ns nm p head j → head ≡ kid → (j ≡ kid → ⊥) → (next ≡ 0 → ⊥) × Run ns nm p next j
   run-rest begins e d = absurd (d e)
   run-rest (goes {x = x} {j = j} h r) e d = subst (λ (k : ℕ). (follow ns nm p k ≡ 0 → ⊥) × Run ns nm p (follow ns nm p k) j) e (h, r)
 
-  step-whole : (j : ℕ) → j < nodesIn ns → Cand ns nm p kid j → Headed ns nm p (b .used) (b .heads) j
+  step-whole : (j : ℕ) → j < nodesIn ns → Cand ns nm p kid j → Headed ns nm p used new j
   step-whole j l k =
-      let h : Headed ns nm p (a .used) (a .heads) j = c .whole j l (cand-on ns nm p last kid j chosen k) in
-      by h (same? (getD (a .heads) (h .place) 0) kid) (m .heads (h .place) (h .low))
+      let h : Headed ns nm p used old j = c .whole j l (cand-on ns nm p last kid j chosen k) in
+      by h (same? (getD old (h .place) 0) kid) (m .heads (h .place) (h .low))
     where
       past : j ≡ kid → ⊥
       past e = before-not ns nm kid (subst (λ (x : ℕ). before ns nm kid x ≡ true) e (after-before ns nm p kid j (chosen .real) (k .past)))
 
-      headed : (h : Headed ns nm p (a .used) (a .heads) j) (x : ℕ) → getD (b .heads) (h .place) 0 ≡ x → (x ≡ 0 → ⊥) → Run ns nm p x j → Headed ns nm p (b .used) (b .heads) j
-      headed h x e s r = record { place = h .place; low = omega (arith, m .used, h .low); some = λ z. s (sym e ∙ z); run = subst (λ (y : ℕ). Run ns nm p y j) (sym e) r }
+      headed : (h : Headed ns nm p used old j) (x : ℕ) → getD new (h .place) 0 ≡ x → (x ≡ 0 → ⊥) → Run ns nm p x j → Headed ns nm p used new j
+      headed h x e s r = record { place = h .place; low = h .low; some = λ z. s (sym e ∙ z); run = subst (λ (y : ℕ). Run ns nm p y j) (sym e) r }
 
-      by : (h : Headed ns nm p (a .used) (a .heads) j) {s : Bool} → Same (getD (a .heads) (h .place) 0) kid s → getD (b .heads) (h .place) 0 ≡ pick s next (getD (a .heads) (h .place) 0) → Headed ns nm p (b .used) (b .heads) j
+      by : (h : Headed ns nm p used old j) {s : Bool} → Same (getD old (h .place) 0) kid s → getD new (h .place) 0 ≡ pick s next (getD old (h .place) 0) → Headed ns nm p used new j
       by h (same e) q = let r = run-rest (h .run) e past in headed h next q (r .0) (r .1)
-      by h (differs e) q = headed h (getD (a .heads) (h .place) 0) q (h .some) (h .run)
+      by h (differs e) q = headed h (getD old (h .place) 0) q (h .some) (h .run)
 
-  step-covers : Covers ns nm p kid (b .used) (b .heads)
+  step-covers : Covers ns nm p kid used new
   step-covers = record { live = step-live; whole = step-whole }
 
-pub ready-step : (ns nm : List ℕ) (p last kid : ℕ) (a b : Runs) → Ready ns nm p last a → kid ≡ nextKid ns nm p last → (kid ≡ 0 → ⊥) → Stepped ns nm p kid a b → Ready ns nm p kid b
-ready-step ns nm p last kid a b h is real m = record {
-  few = omega (arith, h .few, m .used);
+pub ready-step : (ns nm : List ℕ) (p last kid : ℕ) (runs : Runs) (old new : List ℕ) → Ready ns nm p last runs old → kid ≡ nextKid ns nm p last → (kid ≡ 0 → ⊥) → Stepped ns nm p kid (runs .used) old new → Ready ns nm p kid runs new
+ready-step ns nm p last kid runs old new h is real m = record {
+  few = h .few;
   long = m .long;
-  covers = λ q. step-covers ns nm p last kid a b (h .covers (sym (m .quick) ∙ q)) is real m;
+  covers = λ q. step-covers ns nm p last kid (runs .used) old new (h .covers q) is real m;
 }
 
 -- ---- the beginning
@@ -321,15 +320,15 @@ pub record Begun (ns nm : List ℕ) (p x y used : ℕ) (heads : List ℕ) : Type
   pub live : (i : ℕ) → i < used → (getD heads i 0 < nodesIn ns) × ((0 < getD heads i 0) × (parentAt ns (getD heads i 0) ≡ p))
   pub whole : (j : ℕ) → p < j → j ≤ x → j < nodesIn ns → parentAt ns j ≡ p → Headed ns nm p used heads j
 
-pub begun-start : (ns nm : List ℕ) (p y : ℕ) → y ≡ nextChild ns p p → Begun ns nm p p y 0 (replicate {A = ℕ} 64 0)
-begun-start ns nm p y e = record {
+pub begun-start : (ns nm : List ℕ) (p y : ℕ) (heads : List ℕ) → length heads ≡ 64 → y ≡ nextChild ns p p → Begun ns nm p p y 0 heads
+begun-start ns nm p y heads h e = record {
   few = omega arith;
-  long = length-replicate {A = ℕ} 64 0;
+  long = h;
   low = omega arith;
   next = e;
-  child = λ h. absurd (h refl);
-  live = λ i h. absurd (omega arith);
-  whole = λ j h l. absurd (omega arith);
+  child = λ d. absurd (d refl);
+  live = λ i l. absurd (omega arith);
+  whole = λ j l k. absurd (omega arith);
 }
 
 at-first : (ns nm : List ℕ) (j : ℕ) → after ns nm 0 j ≡ true
@@ -423,7 +422,7 @@ module _ (ns nm : List ℕ) (p : ℕ) (w : walks 64 ns ≡ true) (x y used : ℕ
         run = subst (λ (z : ℕ). Run ns nm p z y) (sym new) begins;
       }
 
-  pub begun-end : y ≡ 0 → Ready ns nm p 0 (record { quick = true; used = used; heads = heads })
+  pub begun-end : y ≡ 0 → Ready ns nm p 0 (record { quick = true; used = used }) heads
   begun-end h = record { few = inv .few; long = inv .long; covers = λ q. record { live = λ i l d. (inv .live i l .0, record { real = inv .live i l .1 .0; child = inv .live i l .1 .1; past = at-first ns nm (getD heads i 0) }); whole = λ j l k. inv .whole j (behind j l k) (reached j l k) l (k .child) } }
     where
       behind : (j : ℕ) → j < nodesIn ns → Cand ns nm p 0 j → p < j
@@ -435,10 +434,10 @@ module _ (ns nm : List ℕ) (p : ℕ) (w : walks 64 ns ≡ true) (x y used : ℕ
           none : 0 < y → ⊥
           none q = omega arith
 
-  pub begun-many : Ready ns nm p 0 (record { quick = false; used = used; heads = heads })
+  pub begun-many : Ready ns nm p 0 (record { quick = false; used = used }) heads
   begun-many = record { few = inv .few; long = inv .long; covers = λ q. absurd (false-true q) }
 
-pub ready-slow : (ns nm : List ℕ) (p : ℕ) → Ready ns nm p 0 (record { quick = false; used = 0; heads = replicate 64 0 })
-ready-slow ns nm p = record { few = omega arith; long = length-replicate {A = ℕ} 64 0; covers = λ q. absurd (false-true q) }
+pub ready-slow : (ns nm : List ℕ) (p : ℕ) (heads : List ℕ) → length heads ≡ 64 → Ready ns nm p 0 (record { quick = false; used = 0 }) heads
+ready-slow ns nm p heads h = record { few = omega arith; long = h; covers = λ q. absurd (false-true q) }
 
 pub ruleset runs-laws = (goes-first, goes-next, follow-none, follow-next, follow-falls, first-dead, first-head, first-best, least-start, least-more, least-end, ready-next, moving-start, moving-head, moving-other, moving-end, stepped, begun-start, begun-less, begun-same, begun-new, begun-end, begun-many, ready-slow, is-walk)

@@ -42,10 +42,10 @@ pub record Covers (ns nm : List ℕ) (p last used : ℕ) (heads : List ℕ) : Ty
   pub whole : (j : ℕ) → j < nodesIn ns → Cand ns nm p last j → Headed ns nm p used heads j
 
 -- what is known between two children
-pub record Ready (ns nm : List ℕ) (p last : ℕ) (runs : Runs) : Type 0 where
+pub record Ready (ns nm : List ℕ) (p last : ℕ) (runs : Runs) (heads : List ℕ) : Type 0 where
   pub few : runs .used ≤ 64
-  pub long : length (runs .heads) ≡ 64
-  pub covers : runs .quick ≡ true → Covers ns nm p last (runs .used) (runs .heads)
+  pub long : length heads ≡ 64
+  pub covers : runs .quick ≡ true → Covers ns nm p last (runs .used) heads
 
 -- ---- the least head
 
@@ -69,11 +69,9 @@ abbrev pub movedTo : ℕ → ℕ → ℕ → ℕ
 movedTo kid next head = pick (eqb head kid) next head
 
 -- the same with `next` for the head `kid`, wherever it stands
-pub record Moved (kid next : ℕ) (a b : Runs) : Type 0 where
-  pub quick : b .quick ≡ a .quick
-  pub used : b .used ≡ a .used
-  pub long : length (b .heads) ≡ 64
-  pub heads : (i : ℕ) → i < a .used → getD (b .heads) i 0 ≡ movedTo kid next (getD (a .heads) i 0)
+pub record Moved (kid next used : ℕ) (old new : List ℕ) : Type 0 where
+  pub long : length new ≡ 64
+  pub heads : (i : ℕ) → i < used → getD new i 0 ≡ movedTo kid next (getD old i 0)
 
-abbrev pub Stepped : List ℕ → List ℕ → ℕ → ℕ → Runs → Runs → Type 0
-Stepped ns nm p kid a b = Moved kid (follow ns nm p kid) a b
+abbrev pub Stepped : List ℕ → List ℕ → ℕ → ℕ → ℕ → List ℕ → List ℕ → Type 0
+Stepped ns nm p kid used old new = Moved kid (follow ns nm p kid) used old new

@@ -217,17 +217,18 @@ fn put_node(
     }
     let below = depth - 1;
     let mut pos = put_head(nodes, names, me, out, at);
-    let mut runs = runs::begin(nodes, names, walk, me);
+    let mut heads = [0usize; 64];
+    let runs = runs::begin(nodes, names, walk, me, &mut heads);
+    let used = runs.used;
     let mut last: usize = 0;
     let mut left = nodes.len() / node::NODE_SIZE;
     while 0 < left {
-        let kid = runs::next(nodes, names, me, last, runs);
+        let kid = runs::next(nodes, names, me, last, runs, &heads);
         if kid == 0 {
             return pos;
         }
         pos = put_node(nodes, names, walk, kid, out, pos, below);
-        let rest = runs::step(nodes, names, me, runs, kid);
-        runs = rest;
+        runs::step(nodes, names, me, used, &mut heads, kid);
         last = kid;
         left -= 1;
     }
@@ -244,18 +245,19 @@ fn node_size(nodes: &[u8], names: &[u8], walk: bool, me: usize, depth: usize) ->
     }
     let below = depth - 1;
     let mut size = head_size(nodes, names, me);
-    let mut runs = runs::begin(nodes, names, walk, me);
+    let mut heads = [0usize; 64];
+    let runs = runs::begin(nodes, names, walk, me, &mut heads);
+    let used = runs.used;
     let mut last: usize = 0;
     let mut left = nodes.len() / node::NODE_SIZE;
     while 0 < left {
-        let kid = runs::next(nodes, names, me, last, runs);
+        let kid = runs::next(nodes, names, me, last, runs, &heads);
         if kid == 0 {
             return size;
         }
         let one = node_size(nodes, names, walk, kid, below);
         size = sums::plus(size, one);
-        let rest = runs::step(nodes, names, me, runs, kid);
-        runs = rest;
+        runs::step(nodes, names, me, used, &mut heads, kid);
         last = kid;
         left -= 1;
     }

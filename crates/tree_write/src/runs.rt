@@ -11,11 +11,10 @@ ghost use Rattle.tree_write.specs.Runs.{goesOn, follow, firstOf, Least, 
 // The most runs that are kept; the children of a folder that has more are found by passes over the table.
 const MOST_RUNS: usize = 64;
 
-// The runs whose children are not all passed: the first child left of each, or 0. Not quick where nothing is known of the heads.
+// How many runs there are. The first child left of each, or 0, is kept in a lent array, their heads. Not quick where nothing is known of the heads.
 pub struct Runs {
     pub quick: bool,
     pub used: usize,
-    pub heads: [usize; 64],
 }
 
 // Whether child y goes on the run of child x; at p itself there is no run yet.
@@ -29,11 +28,11 @@ fn goes_on(nodes: &[u8], names: &[u8], p: usize, x: usize, y: usize) -> bool
 }
 
 // The runs of the children of p.
-fn runs_of(nodes: &[u8], names: &[u8], p: usize) -> Runs
+fn runs_of(nodes: &[u8], names: &[u8], p: usize, heads: &mut [usize; 64]) -> Runs
     requires { ⌜ walks 64 (now nodes) ≡ true ⌝ }
-    ensures { λ r. ⌜ Ready (now (nodes .entry)) (now (names .entry)) p 0 r ⌝ }
+    requires { ⌜ length (now heads) ≡ 64 ⌝ }
+    ensures { λ r. ⌜ Ready (now (nodes .entry)) (now (names .entry)) p 0 r (now (heads .exit)) ⌝ }
 {
-    let mut heads = [0usize; 64];
     let mut used: usize = 0;
     let mut x = p;
     let mut y = walk_order::next_child(nodes, p, p);
@@ -43,11 +42,7 @@ fn runs_of(nodes: &[u8], names: &[u8], p: usize) -> Runs
             y = walk_order::next_child(nodes, p, x);
         } else {
             if used == MOST_RUNS {
-                return Runs {
-                    quick: false,
-                    used,
-                    heads,
-                };
+                return Runs { quick: false, used };
             }
             heads[used] = y;
             used += 1;
@@ -55,25 +50,21 @@ fn runs_of(nodes: &[u8], names: &[u8], p: usize) -> Runs
             y = walk_order::next_child(nodes, p, x);
         }
     }
-    Runs {
-        quick: true,
-        used,
-        heads,
-    }
+    Runs { quick: true, used }
 }
 
 // What is known of the children of p before the first of them is written.
-pub fn begin(nodes: &[u8], names: &[u8], walk: bool, p: usize) -> Runs
+pub fn begin(nodes: &[u8], names: &[u8], walk: bool, p: usize, heads: &mut [usize; 64]) -> Runs
     requires { ⌜ walk ≡ walks 64 (now nodes) ⌝ }
-    ensures { λ r. ⌜ Ready (now (nodes .entry)) (now (names .entry)) p 0 r ⌝ }
+    requires { ⌜ length (now heads) ≡ 64 ⌝ }
+    ensures { λ r. ⌜ Ready (now (nodes .entry)) (now (names .entry)) p 0 r (now (heads .exit)) ⌝ }
 {
     if walk {
-        return runs_of(nodes, names, p);
+        return runs_of(nodes, names, p, heads);
     }
     Runs {
         quick: false,
         used: 0,
-        heads: [0; 64],
     }
 }
 
@@ -92,15 +83,14 @@ fn first_of(nodes: &[u8], names: &[u8], head: usize, best: usize) -> usize
 }
 
 // The least head, or 0.
-fn least(nodes: &[u8], names: &[u8], runs: Runs) -> usize
-    requires { ⌜ runs .used ≤ 64 ⌝ }
-    ensures { λ r. ⌜ Least (now (nodes .entry)) (now (names .entry)) (runs .used) (runs .heads) r ⌝ }
+fn least(nodes: &[u8], names: &[u8], used: usize, heads: &[usize; 64]) -> usize
+    requires { ⌜ (used ≤ 64) × (length (now heads) ≡ 64) ⌝ }
+    ensures { λ r. ⌜ Least (now (nodes .entry)) (now (names .entry)) used (now (heads .entry)) r ⌝ }
 {
-    let used = runs.used;
     let mut best: usize = 0;
     let mut i: usize = 0;
     while i < used {
-        let head = runs.heads[i];
+        let head = heads[i];
         best = first_of(nodes, names, head, best);
         i += 1;
     }
@@ -108,13 +98,21 @@ fn least(nodes: &[u8], names: &[u8], runs: Runs) -> usize
 }
 
 // The first child of p after the last one, or 0.
-pub fn next(nodes: &[u8], names: &[u8], p: usize, last: usize, runs: Runs) -> usize
-    requires { ⌜ Ready (now nodes) (now names) p last runs ⌝ }
+pub fn next(
+    nodes: &[u8],
+    names: &[u8],
+    p: usize,
+    last: usize,
+    runs: Runs,
+    heads: &[usize; 64],
+) -> usize
+    requires { ⌜ Ready (now nodes) (now names) p last runs (now heads) ⌝ }
     ensures { λ r. ⌜ r ≡ nextKid (now (nodes .entry)) (now (names .entry)) p last ⌝ }
 {
     let quick = runs.quick;
     if quick {
-        return least(nodes, names, runs);
+        let used = runs.used;
+        return least(nodes, names, used, heads);
     }
     super::next_kid(nodes, names, p, last)
 }
@@ -134,14 +132,11 @@ fn follow(nodes: &[u8], names: &[u8], p: usize, x: usize) -> usize
     0
 }
 
-// The runs with `next` for the head `kid`.
-fn moved(runs: Runs, kid: usize, next: usize) -> Runs
-    requires { ⌜ (runs .used ≤ 64) × (length (runs .heads) ≡ 64) ⌝ }
-    ensures { λ r. ⌜ Moved kid next runs r ⌝ }
+// Puts `next` for the head `kid`.
+fn move_on(heads: &mut [usize; 64], used: usize, kid: usize, next: usize)
+    requires { ⌜ (used ≤ 64) × (length (now heads) ≡ 64) ⌝ }
+    ensures { λ _. ⌜ Moved kid next used (now (heads .entry)) (now (heads .exit)) ⌝ }
 {
-    let quick = runs.quick;
-    let used = runs.used;
-    let mut heads = runs.heads;
     let mut i: usize = 0;
     while i < used {
         let head = heads[i];
@@ -152,14 +147,13 @@ fn moved(runs: Runs, kid: usize, next: usize) -> Runs
             i += 1;
         }
     }
-    Runs { quick, used, heads }
 }
 
-// The runs after the child `kid`.
-pub fn step(nodes: &[u8], names: &[u8], p: usize, runs: Runs, kid: usize) -> Runs
-    requires { ⌜ (runs .used ≤ 64) × (length (runs .heads) ≡ 64) ⌝ }
-    ensures { λ r. ⌜ Stepped (now (nodes .entry)) (now (names .entry)) p kid runs r ⌝ }
+// Moves the heads on past the child `kid`.
+pub fn step(nodes: &[u8], names: &[u8], p: usize, used: usize, heads: &mut [usize; 64], kid: usize)
+    requires { ⌜ (used ≤ 64) × (length (now heads) ≡ 64) ⌝ }
+    ensures { λ _. ⌜ Stepped (now (nodes .entry)) (now (names .entry)) p kid used (now (heads .entry)) (now (heads .exit)) ⌝ }
 {
     let next = follow(nodes, names, p, kid);
-    moved(runs, kid, next)
+    move_on(heads, used, kid, next);
 }

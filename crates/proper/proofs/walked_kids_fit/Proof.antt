@@ -13,6 +13,12 @@ walked-kids-requires c κs = search (walked-laws, needs)
 returns : tie.Need-returns
 returns c = search (walked-laws, needs)
 
+add-first : tie.Need-add-first
+add-first c = search (walked-laws, needs)
+
+add-end : tie.Need-add-end
+add-end c = search (walked-laws, needs)
+
 siblings-differ-requires : tie.Need-siblings-differ-requires
 siblings-differ-requires c κs = search (walked-laws, needs)
 
@@ -29,6 +35,8 @@ walked-kids-fit-spec =
     subtrees-requires
     walked-kids-requires
     returns
+    add-first
+    add-end
     siblings-differ-requires
     returns-2
     returns-3)

@@ -1,4 +1,4 @@
--- `tree_write::node_size` meets its contract. The measure is the depth. The loop's invariant: the size so far and that of the children that are left make up the whole size, and the runs are those of
+-- `tree_write::node_size` meets its contract. The measure is the depth. The loop's invariant: the size so far and that of the children that are left make up the whole size, and the heads are those of
 -- the children that are left. Assumes nothing.
 use mathlib.Core.Path.{_≡_}
 use Prim.Native.Nat.{_≤_, _-_, _+_}
@@ -34,13 +34,13 @@ node-size-below t =
     and 2 node-size-kinds.ps (falls 2 node-size-kinds.ps _<_ μ-node-size t) node-size.Pre
 
 abbrev node-size-Inv-loop : node-size-lts.InvT-loop
-node-size-Inv-loop nodes names walk me depth below size₀ runs₀ last₀ left₀ size runs last left =
-    Ready nodes names me last runs
+node-size-Inv-loop nodes names walk me depth below size₀ heads₀ runs used last₀ left₀ size heads last left =
+    Ready nodes names me last runs heads
     × ((size ≤ largest)
     × (cap (size + length (each (nodeBytes 20 nodes names below) (kids nodes names me left last))) ≡ cap (length (nodeBytes 20 nodes names depth me))))
 
 abbrev node-size-μ-loop : node-size-lts.MeasureT-loop
-node-size-μ-loop nodes names walk me depth below size₀ runs₀ last₀ left₀ size runs last left = left
+node-size-μ-loop nodes names walk me depth below size₀ heads₀ runs used last₀ left₀ size heads last left = left
 
 abbrev node-size-callees : ℕ → node-size-lts.Claims
 node-size-callees t = (head-size-reads.Asked, head-size-reads.Learnt, begin-reads.Asked, begin-reads.Learnt, next-reads.Asked, next-reads.Learnt, node-size-below t, node-size.Post, plus-reads.Asked, plus-reads.Learnt, step-reads.Asked, step-reads.Learnt)
@@ -65,8 +65,8 @@ node-size-next-requires t c κs = search (size-laws, needs)
 
 node-size-returns-2 : (t : ℕ) → node-size-lts.Need-returns-2 (node-size-callees t) (node-size-at t) node-size.Post node-size-Inv-loop node-size-μ-loop
 node-size-returns-2 t c =
-    let inv = c .before .before .before .loop .inv in
-    node-size-end _ _ _ _ _ _ _ _ (inv .1 .0) (inv .1 .1) (kids-stop _ _ _ _ _ _ (c .before .before .loop-test .taken) (c .before .next .ensures) (c .if2 .taken))
+    let inv = c .before .before .before .before .loop .inv in
+    node-size-end _ _ _ _ _ _ _ _ (inv .1 .0) (inv .1 .1) (kids-stop _ _ _ _ _ _ (c .before .before .before .loop-test .taken) (c .before .next .ensures) (c .if2 .taken))
 
 node-size-node-size-requires : (t : ℕ) → node-size-lts.Need-node-size-requires (node-size-callees t) (node-size-at t) node-size.Post node-size-Inv-loop node-size-μ-loop
 node-size-node-size-requires t c κs = search (size-laws, needs)
@@ -85,12 +85,12 @@ node-size-loop-less t c = search (size-laws, needs)
 
 node-size-loop-again : (t : ℕ) → node-size-lts.Need-loop-again (node-size-callees t) (node-size-at t) node-size.Post node-size-Inv-loop node-size-μ-loop
 node-size-loop-again t c =
-    let inv = c .before .before .before .before .before .before .loop .inv in
-    let kid = c .before .before .before .before .next .ensures in
-    let real = c .before .before .before .if2 .left in
-    let more = kids-more _ _ _ _ _ _ (c .before .before .before .before .before .loop-test .taken) kid real in
-    let sum = c .before .plus .ensures in
-    (ready-step _ _ _ _ _ _ _ (inv .0) kid real (c .step .ensures), (sum-small _ _ sum, node-size-more _ _ _ _ _ _ _ _ _ _ _ (inv .1 .1) more (c .before .before .node-size .ensures) sum))
+    let inv = c .before .before .before .before .before .before .before .before .loop .inv in
+    let kid = c .before .before .before .before .before .next .ensures in
+    let real = c .before .before .before .before .if2 .left in
+    let more = kids-more _ _ _ _ _ _ (c .before .before .before .before .before .before .before .loop-test .taken) kid real in
+    let sum = c .before .before .plus .ensures in
+    (ready-step _ _ _ _ _ _ _ _ (inv .0) kid real (c .step .ensures), (sum-small _ _ sum, node-size-more _ _ _ _ _ _ _ _ _ _ _ (inv .1 .1) more (c .before .before .before .node-size .ensures) sum))
 
 node-size-returns-3 : (t : ℕ) → node-size-lts.Need-returns-3 (node-size-callees t) (node-size-at t) node-size.Post node-size-Inv-loop node-size-μ-loop
 node-size-returns-3 t c =

@@ -1,5 +1,5 @@
 -- `tree_write::put_node` meets its contract. The measure is the depth. The loop's invariant: putting the bytes of the children that are left at the present place gives the whole output, and they fit;
--- the runs are those of the children that are left. Assumes nothing.
+-- the heads are those of the children that are left. Assumes nothing.
 use native.Mathlib.Omega.{arith}
 use native.Mathlib.Nat.{pos-of-ne-zero}
 use mathlib.Core.Path.{_≡_}
@@ -35,15 +35,15 @@ put-node-below t =
     and 3 put-node-kinds.ps (falls 3 put-node-kinds.ps _<_ μ-put-node t) put-node.Pre
 
 abbrev put-node-Inv-loop : put-node-lts.InvT-loop
-put-node-Inv-loop nodes names walk me out₀ at depth below pos₀ runs₀ last₀ left₀ out pos runs last left =
-    Ready nodes names me last runs
+put-node-Inv-loop nodes names walk me out₀ at depth below pos₀ heads₀ runs used last₀ left₀ out pos heads last left =
+    Ready nodes names me last runs heads
     × ((length out ≡ length out₀)
     × ((pos + length (each (nodeBytes 20 nodes names below) (kids nodes names me left last)) ≤ length out)
     × ((pos + length (each (nodeBytes 20 nodes names below) (kids nodes names me left last)) ≡ pos₀ + length (each (nodeBytes 20 nodes names below) (kids nodes names me left₀ last₀)))
     × (put out pos (each (nodeBytes 20 nodes names below) (kids nodes names me left last)) ≡ put out₀ pos₀ (each (nodeBytes 20 nodes names below) (kids nodes names me left₀ last₀))))))
 
 abbrev put-node-μ-loop : put-node-lts.MeasureT-loop
-put-node-μ-loop nodes names walk me out₀ at depth below pos₀ runs₀ last₀ left₀ out pos runs last left = left
+put-node-μ-loop nodes names walk me out₀ at depth below pos₀ heads₀ runs used last₀ left₀ out pos heads last left = left
 
 abbrev put-node-callees : ℕ → put-node-lts.Claims
 put-node-callees t = (put-head-reads.Asked, put-head-reads.Learnt, begin-reads.Asked, begin-reads.Learnt, next-reads.Asked, next-reads.Learnt, put-node-below t, put-node.Post, step-reads.Asked, step-reads.Learnt)
@@ -71,19 +71,19 @@ put-node-same-length t c = search (node-laws, needs)
 
 put-node-returns-2 : (t : ℕ) → put-node-lts.Need-returns-2 (put-node-callees t) (put-node-at t) put-node.Post put-node-Inv-loop put-node-μ-loop
 put-node-returns-2 t c =
-    let deep = c .before .before .before .before .before .before .before .before .before .if1 .left in
-    let named = c .before .before .before .before .before .before .before .put-head .ensures in
-    let inv = c .before .before .before .loop .inv in
-    let room = c .before .before .before .before .before .before .before .before .before .before .before .before .before .pre .1 .0 in
-    let none = kids-stop _ _ _ _ _ _ (c .before .before .loop-test .taken) (c .before .next .ensures) (c .if2 .taken) in
+    let deep = c .before .before .before .before .before .before .before .before .before .before .before .if1 .left in
+    let named = c .before .before .before .before .before .before .before .before .before .put-head .ensures in
+    let inv = c .before .before .before .before .loop .inv in
+    let room = c .before .before .before .before .before .before .before .before .before .before .before .before .before .before .before .pre .1 .0 in
+    let none = kids-stop _ _ _ _ _ _ (c .before .before .before .loop-test .taken) (c .before .next .ensures) (c .if2 .taken) in
     (node-at _ _ _ _ deep _ _ _ _ _ none (named .0) (inv .1 .1 .1 .0), node-put _ _ _ _ deep _ _ _ _ _ none (named .0) _ _ _ (omega (arith, room)) (named .1) (inv .1 .1 .1 .1))
 
 put-node-put-node-requires : (t : ℕ) → put-node-lts.Need-put-node-requires (put-node-callees t) (put-node-at t) put-node.Post put-node-Inv-loop put-node-μ-loop
 put-node-put-node-requires t c κs =
-    let inv = c .before .before .before .before .loop .inv in
-    let more = kids-more _ _ _ _ _ _ (c .before .before .before .loop-test .taken) (c .before .before .next .ensures) (c .before .if2 .left) in
-    let pre = c .before .before .before .before .before .before .before .before .before .before .before .before .before .before .pre in
-    (omega (arith, pos-of-ne-zero (c .before .before .before .before .before .before .before .before .before .before .if1 .left), pre .0), (each-room _ _ _ _ _ _ _ _ more _ (inv .1 .1 .0), pre .1 .1))
+    let inv = c .before .before .before .before .before .loop .inv in
+    let more = kids-more _ _ _ _ _ _ (c .before .before .before .before .loop-test .taken) (c .before .before .next .ensures) (c .before .if2 .left) in
+    let pre = c .before .before .before .before .before .before .before .before .before .before .before .before .before .before .before .before .pre in
+    (omega (arith, pos-of-ne-zero (c .before .before .before .before .before .before .before .before .before .before .before .before .if1 .left), pre .0), (each-room _ _ _ _ _ _ _ _ more _ (inv .1 .1 .0), pre .1 .1))
 
 put-node-step-requires : (t : ℕ) → put-node-lts.Need-step-requires (put-node-callees t) (put-node-at t) put-node.Post put-node-Inv-loop put-node-μ-loop
 put-node-step-requires t c κs = search (node-laws, needs)
@@ -96,15 +96,15 @@ put-node-loop-less t c = search (node-laws, needs)
 
 put-node-loop-again : (t : ℕ) → put-node-lts.Need-loop-again (put-node-callees t) (put-node-at t) put-node.Post put-node-Inv-loop put-node-μ-loop
 put-node-loop-again t c =
-    let inv = c .before .before .before .before .before .before .before .before .loop .inv in
-    let kid = c .before .before .before .before .before .before .next .ensures in
-    let real = c .before .before .before .before .before .if2 .left in
-    let more = kids-more _ _ _ _ _ _ (c .before .before .before .before .before .before .before .loop-test .taken) kid real in
-    let put = c .before .before .before .put-node in
+    let inv = c .before .before .before .before .before .before .before .before .before .before .loop .inv in
+    let kid = c .before .before .before .before .before .before .before .next .ensures in
+    let real = c .before .before .before .before .before .before .if2 .left in
+    let more = kids-more _ _ _ _ _ _ (c .before .before .before .before .before .before .before .before .before .loop-test .taken) kid real in
+    let put = c .before .before .before .before .put-node in
     let on = each-next _ _ _ _ _ _ _ _ more _ (put .ensures .0) in (
-      ready-step _ _ _ _ _ _ _ (inv .0) kid real (c .step .ensures),
+      ready-step _ _ _ _ _ _ _ _ (inv .0) kid real (c .step .ensures),
       (
-        omega arith,
+        omega (arith, inv .1 .0, put .kept .1 .1 .1 .1 .0),
         (
           omega (arith, on, inv .1 .1 .0, put .kept .1 .1 .1 .1 .0),
           (omega (arith, on, inv .1 .1 .1 .0), each-put _ _ _ _ _ _ _ _ more _ _ _ _ (omega (arith, inv .1 .1 .0)) (inv .1 .1 .1 .1) (put .ensures .1) (put .ensures .0)),
@@ -117,10 +117,10 @@ put-node-same-length-2 t c = search (node-laws, needs)
 
 put-node-returns-3 : (t : ℕ) → put-node-lts.Need-returns-3 (put-node-callees t) (put-node-at t) put-node.Post put-node-Inv-loop put-node-μ-loop
 put-node-returns-3 t c =
-    let deep = c .before .before .before .before .before .before .before .if1 .left in
-    let named = c .before .before .before .before .before .put-head .ensures in
+    let deep = c .before .before .before .before .before .before .before .before .if1 .left in
+    let named = c .before .before .before .before .before .before .put-head .ensures in
     let inv = c .before .loop .inv in
-    let room = c .before .before .before .before .before .before .before .before .before .before .before .pre .1 .0 in
+    let room = c .before .before .before .before .before .before .before .before .before .before .before .before .pre .1 .0 in
     let none = kids-none _ _ _ _ _ (c .loop-test .left) in
     (node-at _ _ _ _ deep _ _ _ _ _ none (named .0) (inv .1 .1 .1 .0), node-put _ _ _ _ deep _ _ _ _ _ none (named .0) _ _ _ (omega (arith, room)) (named .1) (inv .1 .1 .1 .1))
 

@@ -7,10 +7,10 @@ use Rattle.tree_write.proofs.runs.least.Statement.{statement}
 use Rattle.tree_write.proofs.runs.least.Tie as tie
 
 abbrev Inv-loop : tie.InvT-loop
-Inv-loop nodes names runs used best₀ i₀ best i = (used ≤ 64) × ((i ≤ used) × Least nodes names i (runs .heads) best)
+Inv-loop nodes names used heads best₀ i₀ best i = (i ≤ used) × Least nodes names i heads best
 
 abbrev μ-loop : tie.MeasureT-loop
-μ-loop nodes names runs used best₀ i₀ best i = used - i
+μ-loop nodes names used heads best₀ i₀ best i = used - i
 
 loop-holds : tie.Need-loop-holds Inv-loop μ-loop
 loop-holds c = search (runs-laws, needs)

@@ -37,8 +37,8 @@ returns c = search (runs-laws, needs)
 mul-heads : tie.Need-mul-heads Inv-loop μ-loop
 mul-heads c = search (runs-laws, needs)
 
-array-write-heads : tie.Need-array-write-heads Inv-loop μ-loop
-array-write-heads c = search (runs-laws, needs)
+element-write-heads : tie.Need-element-write-heads Inv-loop μ-loop
+element-write-heads c = search (runs-laws, needs)
 
 add-used : tie.Need-add-used Inv-loop μ-loop
 add-used c = search (runs-laws, needs)
@@ -69,7 +69,7 @@ runs-of-spec =
     loop-again
     returns
     mul-heads
-    array-write-heads
+    element-write-heads
     add-used
     next-child-requires-3
     loop-less-2

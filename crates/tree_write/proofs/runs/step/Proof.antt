@@ -7,11 +7,11 @@ use Rattle.tree_write.proofs.runs.step.Tie as tie
 follow-requires : tie.Need-follow-requires
 follow-requires c κs = search (runs-laws, needs)
 
-moved-requires : tie.Need-moved-requires
-moved-requires c κs = search (runs-laws, needs)
+move-on-requires : tie.Need-move-on-requires
+move-on-requires c κs = search (runs-laws, needs)
 
 returns : tie.Need-returns
 returns c = search (runs-laws, needs)
 
 pub step-spec : {M : Type 1} → statement M
-step-spec = tie.close (tie.spec follow-requires moved-requires returns)
+step-spec = tie.close (tie.spec follow-requires move-on-requires returns)
