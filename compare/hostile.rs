@@ -14,7 +14,8 @@ extern "C" {
     fn mprotect(at: *mut u8, n: usize, protection: i32) -> i32;
 }
 
-const PAGE: usize = 4096;
+/// How much may not be touched on each side: a multiple of the page size of any machine.
+const PAGE: usize = 1 << 16;
 const NO_ACCESS: i32 = 0;
 const READ_WRITE: i32 = 3;
 const PRIVATE_ANONYMOUS: i32 = 0x22;
