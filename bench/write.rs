@@ -101,7 +101,7 @@ fn main() {
             }
             assert!(out[..size] == theirs[..], "other bytes than the Rust's");
             let each = |t: f64| t * 1e9 / records as f64;
-            println!("{records} records, {with}, {trailer}: {:.1} ns a record, the Rust {:.1}; {:.2} of the Rust", each(ours), each(rust), ours / rust);
+            println!("{},{:03} records, {with}, {trailer}: {:.1} ns a record, the Rust {:.1}; {:.2} of the Rust", records / 1000, records % 1000, each(ours), each(rust), ours / rust);
         }
     }
 }
