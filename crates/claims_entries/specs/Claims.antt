@@ -17,7 +17,7 @@ use Rattle.laws.specs.Times.{times-snoc}
 use Rattle.wire.specs.Places.{fileAt, pathAt}
 use Rattle.wire.specs.declared.FileAt.{FileAt}
 use Rattle.wire.specs.declared.PathAt.{PathAt}
-use Rattle.entry.specs.Layout.{idSize}
+use Rattle.format.specs.Format.{idSize}
 use Rattle.decode.specs.Entries.{Outcome, outcome, run, least, readEntries}
 use Rattle.decode.specs.declared.entries.Answer.{Answer}
 use Rattle.decode.specs.declared.entries.Answer.the-variants.{Done, NotSpelled, NoRoom}

@@ -13,7 +13,7 @@ use Rattle.laws.specs.Read.{Begins, refuses}
 use Rattle.laws.specs.Tests.{Less, less, not-less, less?}
 use Rattle.laws.specs.Times.{readTimes, done}
 use Rattle.wire.specs.Places.{fileAt, pathAt}
-use Rattle.entry.specs.Layout.{idSize}
+use Rattle.format.specs.Format.{idSize}
 use Rattle.decode.specs.declared.entries.Answer.the-variants.{Done, NotSpelled, NoRoom}
 use Rattle.grammar.specs.Entry.{Meaning, meaning, start, Entry, Entries}
 use Rattle.grammar.specs.DecideNumber.{readBytes, readBig, decided}

@@ -12,7 +12,7 @@ use lib.Seq.{getD-drop}
 use Rattle.laws.specs.Read.{Begins}
 use Rattle.wire.specs.declared.FileAt.{FileAt}
 use Rattle.wire.specs.declared.PathAt.{PathAt}
-use Rattle.entry.specs.Layout.{idSize}
+use Rattle.format.specs.Format.{idSize}
 use Rattle.entry.specs.Record.{liesInside}
 use Rattle.decode.specs.Entries.{Outcome}
 use Rattle.decode.specs.declared.entries.Answer.the-variants.{Done}

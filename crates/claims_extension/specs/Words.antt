@@ -100,9 +100,3 @@ TREE-bytes = record { four = refl; small = bytes-if TREE refl }
 pub sdir-bytes : FourBytes sdir
 unfolding allBytes
 sdir-bytes = record { four = refl; small = bytes-if sdir refl }
-
-pub TREE-is : reader.TREE ≡ bigEndian TREE
-TREE-is = refl
-
-pub sdir-is : reader.sdir ≡ bigEndian sdir
-sdir-is = refl

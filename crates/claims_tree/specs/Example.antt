@@ -6,8 +6,9 @@ use native.Mathlib.Omega.{arith}
 use lib.Dec.{lit≤}
 use lib.ListN.{length}
 use lib.Seq.{take-length}
+use Rattle.format.specs.Format.{depthLimit}
 use Rattle.tree.specs.declared.TreeAnswer.the-variants.{Tree as IsTree, TooDeep, NoRoom}
-use Rattle.tree.specs.Tree.{depthLimit, readTree}
+use Rattle.tree.specs.Tree.{readTree}
 use Rattle.grammar.specs.Number.{Digit, Digits, last-digit, invalid, minus}
 use Rattle.grammar.specs.Entry.{empty, byte}
 use Rattle.grammar.specs.Tree.{Tree, tree, childless, beside, depth, nodes, no-id, NodeHead, node-head, alone, no-names, one-more, Node, node, no-node, one-node}

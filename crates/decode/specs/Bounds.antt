@@ -3,8 +3,8 @@
 use Prim.Native.Nat.{ℕ, _+_, _-_, _*_, _/_}
 use lib.Dec.{eqb}
 use Rattle.laws.specs.Pick.{pick}
+use Rattle.format.specs.Format.{headerSize}
 use Rattle.measure.specs.Entry.{plainSize}
-use Rattle.decode.specs.Header.{headerSize}
 use Rattle.decode.specs.declared.entries.Extensions.{Extensions}
 use Rattle.decode.specs.declared.entries.Extensions.the-variants.{From, NotTold}
 

@@ -6,13 +6,10 @@ use lib.ListN.{length}
 use lib.Dec.{ltb, eqb}
 use Rattle.laws.specs.Pick.{pick}
 use Rattle.wire.specs.BigEndian.{beAt}
+use Rattle.format.specs.Format.{headerSize}
 use Rattle.refusal.specs.Refusal.{short-file, no-signature, other-version}
 use Rattle.decode.specs.declared.header.Header.{Header}
 use Rattle.decode.specs.declared.header.Header.the-variants.{Opens, ShortFile, NoSignature, OtherVersion}
-
--- signature, version and count, of four bytes each
-abbrev pub headerSize : ℕ
-headerSize = 12
 
 -- "DIRC", big-endian
 abbrev pub signature : ℕ

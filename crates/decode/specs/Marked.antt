@@ -9,10 +9,11 @@ use Rattle.wire.specs.BigEndian.{beAt}
 use Rattle.wire.specs.Groups.{groupsIn, numberAt}
 use Rattle.wire.specs.declared.Number.{Number}
 use Rattle.wire.specs.declared.Number.the-variants.{Is, Cut, Over}
+use Rattle.format.specs.Format.{idSize}
 use Rattle.measure.specs.declared.Measured.{Measured}
 use Rattle.measure.specs.declared.Measured.the-variants.{Entry, Short, Fault}
 use Rattle.entry.specs.Flags.{extendedToMemory}
-use Rattle.measure.specs.Entry.{idLength, extendedAt, headWith, headAt, wholeOf, paddedTo, paddedAt, keptOf, suffixedAt, compressedAt, measureAt}
+use Rattle.measure.specs.Entry.{extendedAt, headWith, headAt, wholeOf, paddedTo, paddedAt, keptOf, suffixedAt, compressedAt, measureAt}
 use Rattle.decode.specs.declared.entries.Extensions.the-variants.{NotTold}
 use Rattle.decode.specs.Bounds.{blockSize, minEntrySize, maxEntries}
 
@@ -55,7 +56,7 @@ flagsOf Fault = []
 
 -- the measure of the entry that a file of version v is but for its last 20 bytes
 abbrev whole : List ℕ → ℕ → ℕ → Measured
-whole s v prev = measureAt idLength (s ++ replicate 20 9) 0 (length s) v false prev
+whole s v prev = measureAt idSize (s ++ replicate 20 9) 0 (length s) v false prev
 
 pub answer : Asked → List ℕ
 answer (plain field n) = lengths 62 n (whole (fixed field ++ replicate n 97 ++ replicate 8 0) 3 0)
@@ -63,7 +64,7 @@ answer (wider field n) = lengths 64 n (whole (fixed (16384 + field) ++ (0 ∷ 0 
 answer (groups s) = value (numberAt s 0 (length s))
 answer (after prev strip suffix) = pathOf (fixed 0 ++ strip ++ suffix ++ (0 ∷ [])) prev (whole (fixed 0 ++ strip ++ suffix ++ (0 ∷ [])) 4 (length prev))
 answer (bits more) = flagsOf (whole (fixed 16385 ++ (more / 256 ∷ more % 256 ∷ []) ++ replicate 9 97) 3 0)
-answer (fileSize n version) = maxEntries n NotTold version idLength ∷ []
+answer (fileSize n version) = maxEntries n NotTold version idSize ∷ []
 
 pub record Row : Type 0 where
   pub asked : Asked

@@ -25,8 +25,8 @@ use Rattle.measure.specs.declared.Measured.the-variants.{Entry, Short, Fault}
 use Rattle.decode.specs.declared.entries.Before.{Before as Start}
 use Rattle.decode.specs.declared.entries.Answer.{Answer}
 use Rattle.decode.specs.declared.entries.Answer.the-variants.{Done, NotSpelled, NoRoom}
-use Rattle.decode.specs.Entries.{pathOf, marked, Outcome, outcome, onMeasured, run, least, readEntries}
-use Rattle.decode.specs.Laws.{least-left, least-small}
+use Rattle.decode.specs.Entries.{pathOf, marked, Outcome, outcome, onMeasured, run, readEntries}
+use Rattle.decode.specs.Laws.{least-left}
 
 -- a run as turns: it is done, or stops at an entry that is not spelled or has no room, or stores an entry and goes on
 pub data Ran (id : ℕ) (s : List ℕ) (end : FileAt) (version : ℕ) : ℕ → ℕ → FileAt → PathAt → Bool → ℕ → Bool → List ℕ → List ℕ → Outcome → Type 0 where
@@ -218,7 +218,3 @@ module _ (id : ℕ) (s : List ℕ) (end : FileAt) (version n i : ℕ) (at : File
   pub read-is-run : before .used .0 ≤ length ps → before .length ≤ before .used .0 → readEntries id s end version n i at before rs ps ≡ run id s end version n i at (before .used) (before .first) (before .length) false rs ps
   unfolding readEntries
   read-is-run h k = rw (← (least-left (before .used .0) (length ps) h), ← (least-left (before .length) (before .used .0) k))
-
-  -- and in any case the run begins in the path store
-  pub read-begins : (least (before .used .0) (length ps) ≤ length ps) × (least (before .length) (least (before .used .0) (length ps)) ≤ least (before .used .0) (length ps))
-  read-begins = (least-small (before .used .0) (length ps) (least (before .used .0) (length ps)) refl, least-small (before .length) (least (before .used .0) (length ps)) (least (before .length) (least (before .used .0) (length ps))) refl)

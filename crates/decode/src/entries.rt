@@ -5,9 +5,8 @@ ghost use mathlib.Core.Path.{_≡_};
 ghost use Prim.Native.Nat.{_+_, _-_, _*_, _≤_};
 ghost use lib.ListN.{length};
 ghost use lib.Seq.{paste};
-ghost use Rattle.wire.specs.Places.{pathAt};
+ghost use Rattle.format.specs.Format.{idSize};
 ghost use Rattle.entry.specs.Record.{putRecord};
-ghost use Rattle.measure.specs.Entry.{idLength};
 ghost use Rattle.decode.specs.Bounds.{blockSize, minEntrySize, maxEntries};
 ghost use Rattle.decode.specs.Entries.{Room, pathOf, marked, least, outcome, run, readEntries};
 use measure::Measured;
@@ -38,8 +37,8 @@ fn entries_block_size_in_bytes(size: usize, extensions: Extensions, id: usize) -
     ensures { λ r. ⌜ r ≡ blockSize size extensions id ⌝ }
 {
     match extensions {
-        Extensions::From(offset) => less(offset, crate::header::SIZE),
-        Extensions::NotTold => less(less(size, id), crate::header::SIZE),
+        Extensions::From(offset) => less(offset, format::HEADER_SIZE),
+        Extensions::NotTold => less(less(size, id), format::HEADER_SIZE),
     }
 }
 
@@ -57,10 +56,10 @@ fn min_entry_size_in_bytes(version: u32, id: usize) -> usize
 
 // How many entries the file has room for at most. It refuses nothing.
 pub fn max_entries_possible(size: usize, extensions: Extensions, version: u32) -> usize
-    ensures { λ r. ⌜ r ≡ maxEntries size extensions version idLength ⌝ }
+    ensures { λ r. ⌜ r ≡ maxEntries size extensions version idSize ⌝ }
 {
-    let block = entries_block_size_in_bytes(size, extensions, entry::ID_SIZE);
-    let least = min_entry_size_in_bytes(version, entry::ID_SIZE);
+    let block = entries_block_size_in_bytes(size, extensions, format::ID_SIZE);
+    let least = min_entry_size_in_bytes(version, format::ID_SIZE);
     block / least
 }
 
@@ -97,7 +96,7 @@ fn store(
     i: usize,
 )
     requires { ⌜ Room (now file) (now paths) keep suffix len prev used ⌝ }
-    ensures { λ _. ⌜ now (records .exit) ≡ putRecord idLength (now (file .entry)) at flags used (used + (keep + len)) (now (records .entry)) i ⌝ }
+    ensures { λ _. ⌜ now (records .exit) ≡ putRecord idSize (now (file .entry)) at flags used (used + (keep + len)) (now (records .entry)) i ⌝ }
     ensures { λ _. ⌜ now (paths .exit) ≡ paste (now (paths .entry)) used (pathOf (now (file .entry)) (now (paths .entry)) keep suffix len prev used) (keep + len) ⌝ }
 {
     let from = used - prev;
@@ -134,7 +133,7 @@ fn run_entries(
     paths: &mut [u8],
 ) -> Answer
     requires { ⌜ (start .0 ≤ length (now paths)) × (known ≤ start .0) ⌝ }
-    ensures { λ r. ⌜ outcome r (now (records .exit)) (now (paths .exit)) ≡ run idLength (now (file .entry)) end version count index from start begins known false (now (records .entry)) (now (paths .entry)) ⌝ }
+    ensures { λ r. ⌜ outcome r (now (records .exit)) (now (paths .exit)) ≡ run idSize (now (file .entry)) end version count index from start begins known false (now (records .entry)) (now (paths .entry)) ⌝ }
 {
     let slots = records.len() / entry::RECORD_SIZE;
     let mut at = from;
@@ -219,7 +218,7 @@ pub fn read_entries(
     records: &mut [u8],
     paths: &mut [u8],
 ) -> Answer
-    ensures { λ r. ⌜ outcome r (now (records .exit)) (now (paths .exit)) ≡ readEntries idLength (now (file .entry)) end version count index from before (now (records .entry)) (now (paths .entry)) ⌝ }
+    ensures { λ r. ⌜ outcome r (now (records .exit)) (now (paths .exit)) ≡ readEntries idSize (now (file .entry)) end version count index from before (now (records .entry)) (now (paths .entry)) ⌝ }
 {
     let place = before.used;
     let first = before.first;

@@ -1,10 +1,7 @@
 // The header: "DIRC", the version, and how many entries follow.
 ghost use mathlib.Core.Path.{_≡_};
-ghost use Rattle.measure.specs.Entry.{idLength};
+ghost use Rattle.format.specs.Format.{idSize};
 ghost use Rattle.decode.specs.Header.{headerAt};
-
-// Signature, version and count, of four bytes each.
-pub const SIZE: usize = 12;
 
 // The header and a trailer of 20 bytes: no index is shorter.
 const LEAST: usize = 32;
@@ -22,7 +19,7 @@ pub enum Header {
 
 // Reads the header; the three refusals are tried in 01's order.
 pub fn decode(file: &[u8]) -> Header
-    ensures { λ r. ⌜ r ≡ headerAt idLength (now (file .entry)) ⌝ }
+    ensures { λ r. ⌜ r ≡ headerAt idSize (now (file .entry)) ⌝ }
 {
     if file.len() < LEAST {
         return Header::ShortFile;

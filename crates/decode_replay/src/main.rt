@@ -1,6 +1,5 @@
 // Replays answers of the Rust on short entry blocks: standard input has the cases that tests/chunk_cases made, each with the Rust's answer, its records and its
 // paths. The program reads each block, compares all of that, and names the known differences (docs/DIFFERENCES.md) and any other case that parts.
-ghost use mathlib.Core.Path.{_≡_};
 ghost use Prim.Native.Nat.{_<_, _≤_};
 use decode::entries::Answer;
 use decode::entries::Before;

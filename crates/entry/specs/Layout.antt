@@ -4,10 +4,7 @@ use Prim.Native.Nat.{ℕ}
 abbrev pub recordSize : ℕ
 recordSize = 96
 
--- the bytes of an id of SHA-1, and the bytes that a record has for an id
-abbrev pub idSize : ℕ
-idSize = 20
-
+-- the bytes that a record has for an id
 abbrev pub idRoom : ℕ
 idRoom = 32
 

@@ -4,7 +4,8 @@ ghost use mathlib.Core.Path.{_≡_};
 ghost use Prim.Native.Nat.{_+_, _-_, _≤_};
 ghost use lib.ListN.{length};
 ghost use lib.Seq.{paste};
-ghost use Rattle.entry.specs.Layout.{recordSize, idSize, idPlace};
+ghost use Rattle.format.specs.Format.{idSize};
+ghost use Rattle.entry.specs.Layout.{recordSize, idPlace};
 ghost use Rattle.entry.specs.Record.{recordsIn, frontOf, restOf, putRecord, fieldAt, flagsAt, modeAt, stageAt, startAt, endAt, idAt, liesInside, pathAt};
 use mode::MODE_AT;
 use mode::MODE_END;
@@ -14,9 +15,6 @@ pub mod mode;
 pub mod stat;
 
 pub const RECORD_SIZE: usize = 96;
-
-// The bytes of an id of SHA-1.
-pub const ID_SIZE: usize = 20;
 
 // Where the parts of a record start. As far as the id they stand as in the entry; zeros fill the room of an id.
 const ID_AT: usize = 40;
@@ -148,14 +146,20 @@ pub fn path_end_at(records: &[u8], i: usize) -> u64
 }
 
 // The id of record i; zeros where there is no such record.
-pub fn id_at(records: &[u8], i: usize) -> [u8; ID_SIZE]
+pub fn id_at(records: &[u8], i: usize) -> [u8; format::ID_SIZE]
     ensures { λ r. ⌜ r ≡ idAt idSize (now (records .entry)) i ⌝ }
 {
-    let mut id = [0u8; ID_SIZE];
+    let mut id = [0u8; format::ID_SIZE];
     if records.len() / RECORD_SIZE <= i {
         return id;
     }
-    slices::copy_bytes(records, i * RECORD_SIZE + ID_AT, ID_SIZE, &mut id, 0);
+    slices::copy_bytes(
+        records,
+        i * RECORD_SIZE + ID_AT,
+        format::ID_SIZE,
+        &mut id,
+        0,
+    );
     id
 }
 

@@ -10,6 +10,7 @@ use Rattle.slices.specs.Bytes.{sameBytes}
 use Rattle.wire.specs.BigEndian.{beAt}
 use Rattle.wire.specs.Places.{fileAt}
 use Rattle.sha1.specs.Sha1.{sha1}
+use Rattle.format.specs.Format.{headerSize}
 use Rattle.extension.specs.Signatures.{EOIE, header-size}
 use Rattle.extension.specs.Iter.{Found, runAt, lastWhere, onBody}
 use Rattle.extension.specs.declared.iter.Body.{Body}
@@ -17,10 +18,6 @@ use Rattle.extension.specs.declared.iter.Body.the-variants.{Missing}
 use Rattle.extension.specs.declared.end_of_index_entry.Prior.{Prior}
 use Rattle.extension.specs.declared.end_of_index_entry.Told.{Told}
 use Rattle.extension.specs.declared.end_of_index_entry.Told.the-variants.{Offset, Nothing}
-
--- how long the file's own header is
-abbrev pub file-header-size : ℕ
-file-header-size = 12
 
 -- how many bytes an offset takes
 abbrev pub offset-size : ℕ
@@ -58,7 +55,7 @@ unfoldable pub offsetAt : ℕ → (List ℕ → List ℕ) → List ℕ → ℕ �
 offsetAt h hash s start =
     pick (eqb (beAt 4 s start) EOIE)
     (pick (eqb (beAt 4 s (start + 4)) (body-size h))
-    (pick (ltb (beAt 4 s (start + 8)) file-header-size) Nothing
+    (pick (ltb (beAt 4 s (start + 8)) headerSize) Nothing
     (pick (ltb start (beAt 4 s (start + 8))) Nothing
     (verifiedAt h hash s start (beAt 4 s (start + 8)))))
     Nothing)

@@ -25,7 +25,3 @@ header-size = 8
 -- a signature's first byte
 abbrev pub firstByte : ℕ → ℕ
 firstByte signature = signature / 16777216
-
--- the trailer is an id of SHA-1
-abbrev pub trailer-size : ℕ
-trailer-size = 20

@@ -14,9 +14,10 @@ use Rattle.slices.specs.Laws.{same-refl, same-equal}
 use Rattle.wire.specs.BigEndian.{beAt}
 use Rattle.wire.specs.Places.{fileAt}
 use Rattle.wire.specs.declared.FileAt.{FileAt}
+use Rattle.format.specs.Format.{headerSize}
 use Rattle.extension.specs.Signatures.{EOIE, header-size}
 use Rattle.extension.specs.Iter.{Found, Ending, filled, runAt, bodyOf, lastWhere, onBody}
-use Rattle.extension.specs.EndOfIndexEntry.{file-header-size, offset-size, body-size, whole-size, headersOf, lastBody, verifiedAt, offsetAt, offsetIn}
+use Rattle.extension.specs.EndOfIndexEntry.{offset-size, body-size, whole-size, headersOf, lastBody, verifiedAt, offsetAt, offsetIn}
 use Rattle.extension.specs.Theorems.{by-less, by-same, Chain, chain-filled, chain-stray, chain-more, run-chain, chain-run}
 use Rattle.extension.specs.declared.iter.Body.{Body}
 use Rattle.extension.specs.declared.iter.Body.the-variants.{Missing}
@@ -33,7 +34,7 @@ pub record Tells (h : ℕ) (hash : List ℕ → List ℕ) (s : List ℕ) (offset
   pub named : beAt 4 s (beginning h s) ≡ EOIE
   pub sized : beAt 4 s (beginning h s + 4) ≡ body-size h
   pub told : beAt 4 s (beginning h s + 8) ≡ offset
-  pub low : file-header-size ≤ offset
+  pub low : headerSize ≤ offset
   pub high : offset ≤ beginning h s
   pub first : Found
   pub rest : List Found
@@ -61,7 +62,7 @@ pub data SaysTold (h : ℕ) (hash : List ℕ → List ℕ) (s : List ℕ) : Told
   is-nothing : SaysTold h hash s Nothing
 
 module _ (h : ℕ) (hash : List ℕ → List ℕ) (s : List ℕ) (long : whole-size h + h ≤ length s) (named : beAt 4 s (beginning h s) ≡ EOIE) (sized : beAt 4 s (beginning h s + 4) ≡ body-size h) (offset : ℕ)
-    (told : beAt 4 s (beginning h s + 8) ≡ offset) (low : file-header-size ≤ offset) (high : offset ≤ beginning h s) where
+    (told : beAt 4 s (beginning h s + 8) ≡ offset) (low : headerSize ≤ offset) (high : offset ≤ beginning h s) where
   ended-says : (fs : List Found) {e : Ending} → Chain s (beginning h s) offset fs e → hash (flatten (headersOf s fs)) ≡ take h (drop (beginning h s + (header-size + offset-size)) s)
       → SaysTold h hash s (onBody (lastBody fs) Nothing (λ first behind. pick (eqb behind (beginning h s)) (Offset (fileAt offset)) Nothing))
   unfolding lastWhere
@@ -94,7 +95,7 @@ told-says h hash s =
     by-less (SaysTold h hash s) (length s) (whole-size h + h) (λ l. is-nothing)
     (λ long. by-same (SaysTold h hash s) (beAt 4 s (beginning h s)) EOIE
     (λ named. by-same (SaysTold h hash s) (beAt 4 s (beginning h s + 4)) (body-size h)
-    (λ sized. by-less (SaysTold h hash s) (beAt 4 s (beginning h s + 8)) file-header-size (λ l. is-nothing)
+    (λ sized. by-less (SaysTold h hash s) (beAt 4 s (beginning h s + 8)) headerSize (λ l. is-nothing)
     (λ low. by-less (SaysTold h hash s) (beginning h s) (beAt 4 s (beginning h s + 8)) (λ l. is-nothing)
     (λ high. verified-says h hash s long named sized (beAt 4 s (beginning h s + 8)) refl low high)))
     (λ d. is-nothing))
@@ -119,7 +120,7 @@ tells-told h hash s offset t =
       eq-eqb (beAt 4 s (beginning h s)) EOIE (t .named),
       eq-eqb (beAt 4 s (beginning h s + 4)) (body-size h) (t .sized),
       t .told,
-      le-ltb offset file-header-size (t .low),
+      le-ltb offset headerSize (t .low),
       le-ltb (beginning h s) offset (t .high),
       r,
       t .hashed,

@@ -2,11 +2,10 @@
 ghost use mathlib.Core.Path.{_≡_};
 ghost use Prim.Native.Nat.{_+_, _≤_};
 ghost use lib.ListN.{length};
+ghost use Rattle.format.specs.Format.{idSize};
 ghost use Rattle.sha1.specs.Sha1.{sha1};
-ghost use Rattle.extension.specs.Signatures.{trailer-size};
 ghost use Rattle.extension.specs.EndOfIndexEntry.{whole-size, priorAt, verifiedAt, offsetIn};
 use crate::EOIE;
-use crate::TRAILER;
 use crate::iter::Body;
 use crate::iter::Cursor;
 use crate::iter::Step;
@@ -20,9 +19,6 @@ const MIN_SIZE_WITH_HEADER: usize = 32;
 
 // What stands before the body's hash: header and offset.
 const BEFORE_HASH: usize = 12;
-
-// How long the file's own header is: no extension begins before its end.
-const FILE_HEADER: usize = 12;
 
 // The offset at which extensions begin, if there is an EOIE that tells it.
 pub enum Told {
@@ -74,14 +70,14 @@ fn summed(file: &[u8], from: FileAt, end: FileAt) -> Prior
 
 // The offset, if its extensions have the hash that EOIE, which begins at `start`, has of them, and the last of them ends where EOIE begins.
 fn verified(file: &[u8], offset: usize, start: usize) -> Told
-    requires { ⌜ start + whole-size trailer-size ≤ length (now file) ⌝ }
-    ensures { λ r. ⌜ r ≡ verifiedAt trailer-size sha1 (now (file .entry)) start offset ⌝ }
+    requires { ⌜ start + whole-size idSize ≤ length (now file) ⌝ }
+    ensures { λ r. ⌜ r ≡ verifiedAt idSize sha1 (now (file .entry)) start offset ⌝ }
 {
     let p = summed(file, FileAt(offset), FileAt(start));
     let sum = p.sum;
     let last = p.last;
     let hash = start + BEFORE_HASH;
-    if slices::same(&sum, 0, file, hash, TRAILER) {
+    if slices::same(&sum, 0, file, hash, format::ID_SIZE) {
         match last {
             Body::Missing => return Told::Nothing,
             Body::Lies { start: _, stop } => {
@@ -98,12 +94,12 @@ fn verified(file: &[u8], offset: usize, start: usize) -> Told
 
 // The offset that the EOIE in front of a file's trailer tells.
 pub fn decode(file: &[u8]) -> Told
-    ensures { λ r. ⌜ r ≡ offsetIn trailer-size sha1 (now (file .entry)) ⌝ }
+    ensures { λ r. ⌜ r ≡ offsetIn idSize sha1 (now (file .entry)) ⌝ }
 {
-    if file.len() < MIN_SIZE_WITH_HEADER + TRAILER {
+    if file.len() < MIN_SIZE_WITH_HEADER + format::ID_SIZE {
         return Told::Nothing;
     }
-    let start = file.len() - (MIN_SIZE_WITH_HEADER + TRAILER);
+    let start = file.len() - (MIN_SIZE_WITH_HEADER + format::ID_SIZE);
     let signature = wire::be32(file, start);
     if signature != EOIE {
         return Told::Nothing;
@@ -113,7 +109,7 @@ pub fn decode(file: &[u8]) -> Told
         return Told::Nothing;
     }
     let offset = wire::be32(file, start + 8) as usize;
-    if offset < FILE_HEADER {
+    if offset < format::HEADER_SIZE {
         return Told::Nothing;
     }
     if start < offset {

@@ -1,9 +1,8 @@
 // IEOT, the table of blocks of entries: version 1, and then pairs of a block's offset and its number of entries.
 ghost use mathlib.Core.Path.{_≡_};
-ghost use Rattle.extension.specs.Signatures.{trailer-size};
+ghost use Rattle.format.specs.Format.{idSize};
 ghost use Rattle.extension.specs.IndexEntryOffsetTable.{tableAt, tableIn, tableFrom, pairIn, pairFrom};
 use crate::IEOT;
-use crate::TRAILER;
 use crate::iter::Body;
 use wire::FileAt;
 
@@ -61,13 +60,13 @@ pub fn decode(file: &[u8], start: FileAt, stop: FileAt) -> Table
 
 // Where the first IEOT's body lies among the extensions from an offset on, in front of the trailer.
 fn body(file: &[u8], offset: FileAt) -> Body
-    ensures { λ r. ⌜ r ≡ tableIn trailer-size (now (file .entry)) (offset .0) ⌝ }
+    ensures { λ r. ⌜ r ≡ tableIn idSize (now (file .entry)) (offset .0) ⌝ }
 {
     let from = offset.0;
-    if file.len() < TRAILER {
+    if file.len() < format::ID_SIZE {
         return Body::Missing;
     }
-    let end = file.len() - TRAILER;
+    let end = file.len() - format::ID_SIZE;
     if end < from {
         return Body::Missing;
     }
@@ -76,7 +75,7 @@ fn body(file: &[u8], offset: FileAt) -> Body
 
 // How many pairs the first IEOT has, in a file whose extensions begin at an offset.
 pub fn find(file: &[u8], offset: FileAt) -> Table
-    ensures { λ r. ⌜ r ≡ tableFrom trailer-size (now (file .entry)) (offset .0) ⌝ }
+    ensures { λ r. ⌜ r ≡ tableFrom idSize (now (file .entry)) (offset .0) ⌝ }
 {
     let b = body(file, offset);
     match b {
@@ -107,7 +106,7 @@ pub fn pair_at(file: &[u8], start: FileAt, stop: FileAt, k: usize) -> Offset
 
 // Pair number k of the first IEOT, in a file whose extensions begin at an offset.
 pub fn pair(file: &[u8], offset: FileAt, k: usize) -> Offset
-    ensures { λ r. ⌜ r ≡ pairFrom trailer-size (now (file .entry)) (offset .0) k ⌝ }
+    ensures { λ r. ⌜ r ≡ pairFrom idSize (now (file .entry)) (offset .0) k ⌝ }
 {
     let b = body(file, offset);
     match b {

@@ -1,7 +1,6 @@
 // A cursor by value over a part of the file, which steps from extension to extension.
 ghost use mathlib.Core.Path.{_≡_};
 ghost use Rattle.extension.specs.Iter.{stepAt, firstAt};
-use crate::HEADER;
 use wire::FileAt;
 
 // The part of the file from `at` up to `end` that is still to be walked.
@@ -47,15 +46,15 @@ impl Cursor {
             return Step::Done;
         }
         let room = end - at;
-        if room < HEADER {
+        if room < format::EXTENSION_HEADER_SIZE {
             return Step::Broken;
         }
         let signature = wire::be32(file, at);
         let size = wire::be32(file, at + 4) as usize;
-        if room - HEADER < size {
+        if room - format::EXTENSION_HEADER_SIZE < size {
             return Step::Broken;
         }
-        let start = at + HEADER;
+        let start = at + format::EXTENSION_HEADER_SIZE;
         let stop = FileAt(start + size);
         Step::Extension {
             signature,

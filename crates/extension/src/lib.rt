@@ -16,9 +16,3 @@ pub const EOIE: u32 = 0x454f_4945;
 
 // A signature divided by this is its first byte.
 pub const FIRST_BYTE: u32 = 0x100_0000;
-
-// What stands before an extension's body: signature and size.
-pub const HEADER: usize = 8;
-
-// How long the trailer is, an id of SHA-1.
-pub const TRAILER: usize = 20;

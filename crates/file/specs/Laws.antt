@@ -2,17 +2,18 @@
 use mathlib.Core.Path.{_≡_, refl, sym, ap, _∙_}
 use mathlib.Core.Bool.{Bool, true, false}
 use mathlib.Core.List.{List}
-use Prim.Native.Nat.{ℕ, _+_, _-_, _≤_, _<_}
+use Prim.Native.Nat.{ℕ, _+_, _-_, _≤_}
 use native.Mathlib.Omega.{arith}
 use lib.ListN.{length}
 use lib.Dec.{ltb, eqb}
 use borrow.Author.Tests.{ltb-false}
 use Rattle.laws.specs.Pick.{pick}
-use Rattle.wire.specs.Places.{fileAt, pathAt}
+use Rattle.wire.specs.Places.{fileAt}
 use Rattle.wire.specs.BigEndian.{beAt}
 use Rattle.wire.specs.declared.FileAt.{FileAt}
 use Rattle.wire.specs.declared.PathAt.{PathAt}
-use Rattle.decode.specs.Header.{headerSize, signature, onVersion, headerAt}
+use Rattle.format.specs.Format.{headerSize}
+use Rattle.decode.specs.Header.{signature, onVersion, headerAt}
 use Rattle.decode.specs.declared.header.Header.{Header}
 use Rattle.decode.specs.declared.header.Header.the-variants.{Opens, ShortFile, NoSignature, OtherVersion}
 use Rattle.decode.specs.Entries as entries
@@ -28,7 +29,7 @@ use Rattle.tree.specs.Tree.{readTree}
 use Rattle.tree.specs.declared.TreeAnswer.{TreeAnswer}
 use Rattle.tree.specs.declared.TreeAnswer.the-variants as grown
 use Rattle.file.specs.Trailer.{goodTrailer}
-use Rattle.file.specs.Read.{Outcome, outcome, readWith, withTree, marked, grownInto, onWalked, extensionsInto, withNodes, nothingBefore, onEntries, entriesInto, onHeader, readFile}
+use Rattle.file.specs.Read.{Outcome, outcome, readWith, withTree, marked, onWalked, extensionsInto, withNodes, nothingBefore, onEntries, entriesInto, onHeader, readFile}
 use Rattle.file.specs.declared.Entries.{Entries}
 use Rattle.file.specs.declared.Answer.{Answer}
 use Rattle.file.specs.declared.Answer.the-variants as answer

@@ -1,6 +1,6 @@
 -- 01's marked pages on whole files: 31 bytes are refused by 1; "DIRC", version 2, count 0 and 20 zeros are read, with no entries. Assumes nothing.
 use Prim.Native.Nat.{ℕ}
-use mathlib.Core.Bool.{true, false}
+use mathlib.Core.Bool.{false}
 use mathlib.Core.List.{List, [], _∷_, _++_}
 use mathlib.Core.Path.{_≡_, refl}
 use lib.ListN.{replicate}

@@ -6,8 +6,8 @@ use mathlib.Core.List.{List}
 use lib.ListN.{length}
 use Rattle.laws.specs.Pick.{pick}
 use Rattle.wire.specs.Places.{fileAt, pathAt}
-use Rattle.wire.specs.declared.FileAt.{FileAt}
-use Rattle.decode.specs.Header.{headerSize, headerAt}
+use Rattle.format.specs.Format.{headerSize}
+use Rattle.decode.specs.Header.{headerAt}
 use Rattle.decode.specs.declared.header.Header.{Header}
 use Rattle.decode.specs.declared.header.Header.the-variants.{Opens, ShortFile, NoSignature, OtherVersion}
 use Rattle.decode.specs.Entries as entries
@@ -16,7 +16,6 @@ use Rattle.decode.specs.declared.entries.Answer.{Answer as Ran}
 use Rattle.decode.specs.declared.entries.Answer.the-variants as ran
 use Rattle.extension.specs.Signatures.{TREE}
 use Rattle.extension.specs.Decode.{walkAt}
-use Rattle.extension.specs.declared.iter.Body.{Body}
 use Rattle.extension.specs.declared.iter.Body.the-variants.{Lies, Missing}
 use Rattle.extension.specs.declared.decode.Walked.{Walked}
 use Rattle.extension.specs.declared.decode.Walked.the-variants as walked

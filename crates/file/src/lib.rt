@@ -15,9 +15,6 @@ use tree::TreeAnswer;
 use wire::FileAt;
 use wire::PathAt;
 
-// An id, and so the trailer, of SHA-1.
-const ID: usize = 20;
-
 // What reading a file comes to: what was read, or one refusal of 01's table, with the value that it carries.
 pub enum Answer {
     Read {
@@ -123,13 +120,13 @@ fn good_trailer(file: &[u8]) -> bool
     requires { ⌜ 20 ≤ length (now file) ⌝ }
     ensures { λ r. ⌜ r ≡ goodTrailer 20 (now (file .entry)) ⌝ }
 {
-    let n = file.len() - ID;
-    let zeros = [0u8; ID];
-    if slices::same(file, n, &zeros, 0, ID) {
+    let n = file.len() - format::ID_SIZE;
+    let zeros = [0u8; format::ID_SIZE];
+    if slices::same(file, n, &zeros, 0, format::ID_SIZE) {
         return true;
     }
     let digest = sha1::sha1_of(&file[..n]);
-    slices::same(file, n, &digest, 0, ID)
+    slices::same(file, n, &digest, 0, format::ID_SIZE)
 }
 
 // What was read of header and entries, before the extensions.
@@ -186,7 +183,7 @@ fn read_extensions(file: &[u8], next: FileAt, e: Entries, nodes: &mut [u8]) -> A
     requires { ⌜ 20 ≤ length (now file) ⌝ }
     ensures { λ r. ⌜ (r, now (nodes .exit)) ≡ extensionsInto 20 64 (now (file .entry)) (next .0) e (now (nodes .entry)) ⌝ }
 {
-    let end = FileAt(file.len() - ID);
+    let end = FileAt(file.len() - format::ID_SIZE);
     let w = extension::decode::walk(file, next, end, extension::TREE);
     match w {
         Walked::NotFilled(place) => Answer::NotFilled(place.0),
@@ -218,8 +215,8 @@ fn read_entries(
     requires { ⌜ 20 ≤ length (now file) ⌝ }
     ensures { λ r. ⌜ outcome r (now (records .exit)) (now (paths .exit)) (now (nodes .exit)) ≡ entriesInto 20 64 (now (file .entry)) version count (now (records .entry)) (now (paths .entry)) (now (nodes .entry)) ⌝ }
 {
-    let end = FileAt(file.len() - ID);
-    let from = FileAt(decode::header::SIZE);
+    let end = FileAt(file.len() - format::ID_SIZE);
+    let from = FileAt(format::HEADER_SIZE);
     let before = Before {
         used: PathAt(0),
         first: true,

@@ -45,13 +45,6 @@ pub list-true : {a b : List ℕ} → a ≡ b → sameList a b ≡ true
 unfolding sameList
 list-true {a} {b} e = rw (← e, compared-same a)
 
-pub list-false : (a b : List ℕ) → (a ≡ b → ⊥) → sameList a b ≡ false
-list-false a b d = go (same-list? a b)
-  where
-    go : {t : Bool} → SameList a b t → t ≡ false
-    go (same-list e) = absurd (d e)
-    go (other-list e) = refl
-
 -- ---- an extension with its frame
 
 unfoldable pub readFramed : List ℕ → Got Ext

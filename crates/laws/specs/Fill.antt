@@ -1,11 +1,11 @@
 -- Items that fill a byte list.
 use Prim.Native.Nat.{ℕ, zero, suc, _+_, _≤_, _<_}
-use mathlib.Core.Path.{_≡_, refl, sym, ap, _∙_, subst}
-use mathlib.Core.List.{List, [], _∷_, _++_, append-assoc, append-nil, append-cancel-right}
+use mathlib.Core.Path.{_≡_, refl, ap, subst}
+use mathlib.Core.List.{List, [], _∷_, _++_, append-assoc}
 use mathlib.Core.Logic.{_↔_}
 use native.Mathlib.Omega.{arith}
 use lib.ListN.{length, length-append}
-use Rattle.laws.specs.Read.{Got, got, none, Begins, Says, spelled, refused, cut, Reads, refuses}
+use Rattle.laws.specs.Read.{Got, got, none, Begins, Says, spelled, cut, Reads, refuses}
 
 pub data Filled (A : Type 0) : Type 0 where
   filled : List A → Filled A

@@ -122,12 +122,6 @@ equal-same a b e = by (subst (Compares a b) e (compares a b))
     by : Compares a b equal → a ≡ b
     by (is-equal t) = t
 
-pub beyond-before : (a b : List ℕ) → compared a b ≡ beyond → Before b a
-beyond-before a b e = by (subst (Compares a b) e (compares a b))
-  where
-    by : Compares a b beyond → Before b a
-    by (is-beyond t) = t
-
 pub compared-flip : (a b : List ℕ) → compared b a ≡ flip (compared a b)
 compared-flip a b = by (compares a b)
   where

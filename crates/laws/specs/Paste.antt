@@ -7,7 +7,7 @@ use native.Mathlib.Numerals.{add-one}
 use native.Mathlib.Omega.{arith}
 use lib.ListN.{length, getD, set, take, drop, replicate, length-drop, length-replicate, getD-replicate, List·getD-append}
 use Rattle.laws.specs.Lists.{getD-right}
-use lib.Seq.{paste, paste-suc, take-paste, drop-paste, getD-drop, getD-take, getD-append-add, length-take-le, length-paste-head, take-append-add, drop-drop, take-all, take-take, sets-eq}
+use lib.Seq.{paste, paste-suc, take-paste, drop-paste, getD-drop, getD-take, length-take-le, length-paste-head, take-append-add, drop-drop, take-all, take-take, sets-eq}
 
 -- a store of s's element j at to + j takes the paste of j elements to the paste of j + 1
 pub paste-more : (d d₀ : List ℕ) (to : ℕ) (s : List ℕ) (j : ℕ) → d ≡ paste d₀ to s j → to + j < length d₀ → j < length s → set d (to + j) (getD s j 0) ≡ paste d₀ to s (j + 1)

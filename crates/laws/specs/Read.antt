@@ -1,8 +1,8 @@
 -- A language R of byte lists with meanings, and a reader of it.
-use Prim.Native.Nat.{ℕ, suc, _≤_, _<_}
+use Prim.Native.Nat.{ℕ, _≤_, _<_}
 use mathlib.Core.Path.{_≡_, refl, sym, ap, _∙_, subst}
-use mathlib.Core.List.{List, [], _∷_, _++_, append-assoc, append-nil, append-cancel-right}
-use mathlib.Core.Bool.{Bool, true, false}
+use mathlib.Core.List.{List, _++_, append-assoc, append-cancel-right}
+use mathlib.Core.Bool.{Bool}
 use mathlib.Core.Logic.{_↔_}
 use native.Mathlib.Omega.{arith}
 use lib.Dec.{ltb, leb}
@@ -81,18 +81,6 @@ both-says {R = R} {S = S} k {xs} (spelled {v = a} {rest = r} b i x) y = go (y a 
     go : {h : Got _} → Says (S a) r h → Says (Both R S) xs h
     go refused = refused
     go (spelled {rest = q} c j z) = spelled (b ++ c) (cut xs b c r q i j) (both x z)
-
-pub both-reads : {A B : Type 0} {R : List ℕ → A → Type 0} {S : A → List ℕ → B → Type 0} {f : List ℕ → Got A} {g : A → List ℕ → Got B}
-    → Reads R f → ((a : A) → Reads (S a) (g a)) → Reads (Both R S) (λ xs. next (f xs) g)
-both-reads {R = R} {S} {f} {g} p q = record { says = λ xs. both-says g (p .says xs) (λ a. q a .says); complete = cpl }
-  where
-    cpl : {b : List ℕ} {v : _} → Both R S b v → (rest : List ℕ) → next (f (b ++ rest)) g ≡ got v rest
-    cpl (both {a = a} {c = c} r s) rest = rw (append-assoc, p .complete r (c ++ rest)) (q a .complete s rest)
-
--- another language with the same bytes
-pub as-says : {A : Type 0} {R T : List ℕ → A → Type 0} → ((b : List ℕ) (v : A) → R b v → T b v) → {xs : List ℕ} {g : Got A} → Says R xs g → Says T xs g
-as-says t refused = refused
-as-says t (spelled {v = v} b i x) = spelled b i (t b v x)
 
 -- a step of a reader: what it says follows from what it says after the step
 pub says-next : {A B : Type 0} {R : List ℕ → A → Type 0} {T : List ℕ → B → Type 0} {xs ys : List ℕ} {g : Got A} {k : A → List ℕ → Got B} → Says R ys g

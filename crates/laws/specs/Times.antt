@@ -1,7 +1,7 @@
 -- n items, each read in a state that the items before it leave.
-use Prim.Native.Nat.{ℕ, zero, suc, _+_, _≤_, _<_}
-use mathlib.Core.Path.{_≡_, refl, sym, ap, _∙_, subst}
-use mathlib.Core.List.{List, [], _∷_, _++_, append-assoc, append-nil, append-cancel-right}
+use Prim.Native.Nat.{ℕ, zero, suc, _+_, _<_}
+use mathlib.Core.Path.{_≡_, refl, ap, _∙_, subst}
+use mathlib.Core.List.{List, [], _∷_, _++_, append-assoc, append-nil}
 use mathlib.Core.Logic.{_↔_}
 use native.Mathlib.Omega.{arith}
 use Rattle.laws.specs.Read.{Got, got, none, Begins, Says, spelled, refused, cut, Reads, refuses}
@@ -100,14 +100,6 @@ module _ {S A : Type 0} {E : S → List ℕ → A → Type 0} {read : S → List
 
       from : Stops E after s n xs k vs → readTimes read after s n xs ≡ stopped k vs
       from (h, (rest, (b, e, t), q)) = ap (readTimes read after s n) e ∙ times-stops t n h rest (refuses (p _) rest .1 q)
-
-  pub times-unique : (s : S) (n : ℕ) (xs : List ℕ) (vs ws : List A) (r q : List ℕ) (x : Begins (Times E after s n) xs vs r) (y : Begins (Times E after s n) xs ws q)
-      → (vs ≡ ws) × (r ≡ q) × (x .0 ≡ y .0)
-  times-unique s n xs vs ws r q x y =
-      let f : readTimes read after s n xs ≡ all vs r = times-accepts s n xs vs r .1 x in
-      let g : readTimes read after s n xs ≡ all ws q = times-accepts s n xs ws q .1 y in
-      let rq : r ≡ q = cc in
-      ((cc), rq, append-cancel-right (x .0) (y .0) q (ap (λ (l : List ℕ). x .0 ++ l) (sym rq) ∙ sym (x .1) ∙ y .1))
 
   -- where it does not matter which item is not there
   pub times-reads : (s : S) (n : ℕ) → Reads (Times E after s n) (λ xs. asGot (readTimes read after s n xs))

@@ -1,9 +1,8 @@
 -- Lines that compute (01, Marked pages): an entry of mode 100644, zero id, stage 0 and path "a"; refusal 5 of entry 0; refusal 1, which carries nothing. Assumes
 -- nothing.
 use mathlib.Core.Bool.{true, false}
-use mathlib.Core.List.{List, [], _∷_, _++_}
+use mathlib.Core.List.{[], _∷_, _++_}
 use mathlib.Core.Path.{_≡_, refl}
-use Prim.Native.Nat.{ℕ}
 use lib.ListN.{replicate}
 use Rattle.wire.specs.Written.{digitsBy, digitsOf}
 use Rattle.show.specs.Hex.{digit, hex}

@@ -14,7 +14,6 @@ use Rattle.wire.specs.BigEndian.{beAt}
 use Rattle.wire.specs.Groups.{numberAt}
 use Rattle.wire.specs.declared.Number.{Number}
 use Rattle.wire.specs.declared.Number.the-variants.{Is, Cut, Over}
-use Rattle.entry.specs.Layout.{idSize}
 use Rattle.entry.specs.Flags.{bit, extended, toMemory, extendedToMemory}
 use Rattle.entry.specs.declared.flags.Extended.{Extended}
 use Rattle.entry.specs.declared.flags.Extended.the-variants.{Kept, Unknown}
@@ -24,10 +23,6 @@ use Rattle.measure.specs.declared.Left.{Left}
 use Rattle.measure.specs.declared.Left.the-variants.{Bytes, TooFew}
 use Rattle.measure.specs.declared.Measured.{Measured}
 use Rattle.measure.specs.declared.Measured.the-variants.{Entry, Short, Fault}
-
--- SHA-1's ids
-abbrev pub idLength : ℕ
-idLength = idSize
 
 -- ten fields of 32 bits and an id stand before the flags
 abbrev pub flagsAt : ℕ → ℕ

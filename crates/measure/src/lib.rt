@@ -3,21 +3,12 @@
 ghost use mathlib.Core.Path.{_≡_};
 ghost use Prim.Native.Nat.{_+_, _*_, _/_, _%_, _^_, _≤_, _<_};
 ghost use lib.ListN.{length};
-ghost use Rattle.measure.specs.Entry.{idLength, extendedAt, headAt, HeadFits, paddedTo, paddedAt, keptOf, suffixedAt, compressedAt, measureAt};
+ghost use Rattle.format.specs.Format.{idSize};
+ghost use Rattle.measure.specs.Entry.{extendedAt, headAt, HeadFits, paddedTo, paddedAt, keptOf, suffixedAt, compressedAt, measureAt};
 use entry::flags::Extended;
 use slices::Ends;
 use wire::FileAt;
 use wire::Number;
-
-// Ten fields of 32 bits, an id of 20 bytes and 16 flag bits; with EXTENDED 16 bits more.
-const FLAGS_AT: usize = 60;
-
-const PLAIN: usize = 62;
-
-const EXTENDED: usize = 64;
-
-// A length field of this value says that the path runs to the first NUL.
-const TO_NUL: usize = 4095;
 
 // The part of fixed length: the record's flags, how many bytes it has, and the length field.
 pub enum Head {
@@ -61,7 +52,7 @@ fn upper_byte(b: u8) -> u16
 fn read_extended(file: &[u8], at: usize, end: usize, kept: u32, field: usize) -> Head
     requires { ⌜ (at ≤ end) × (end ≤ length (now file)) ⌝ }
     requires { ⌜ kept < 65536 ⌝ }
-    ensures { λ r. ⌜ r ≡ extendedAt idLength (now (file .entry)) at end kept field ⌝ }
+    ensures { λ r. ⌜ r ≡ extendedAt idSize (now (file .entry)) at end kept field ⌝ }
 {
     let room = end - at;
     if room < 1 {
@@ -79,14 +70,14 @@ fn read_extended(file: &[u8], at: usize, end: usize, kept: u32, field: usize) ->
         Extended::Unknown => Head::Spoiled,
         Extended::Kept(bits) => Head::Fixed {
             flags: kept + bits,
-            size: EXTENDED,
+            size: format::FIXED_EXTENDED_SIZE,
             field,
         },
     }
 }
 
 fn read_head(file: &[u8], at: usize, end: usize) -> Head
-    ensures { λ r. ⌜ r ≡ headAt idLength (now (file .entry)) at end ⌝ }
+    ensures { λ r. ⌜ r ≡ headAt idSize (now (file .entry)) at end ⌝ }
 {
     if file.len() < end {
         return Head::Unfinished;
@@ -95,18 +86,18 @@ fn read_head(file: &[u8], at: usize, end: usize) -> Head
         return Head::Unfinished;
     }
     let room = end - at;
-    if room < PLAIN {
+    if room < format::FIXED_SIZE {
         return Head::Unfinished;
     }
-    let word = wire::be16(file, at + FLAGS_AT);
+    let word = wire::be16(file, at + format::FLAGS_AT);
     let flags = entry::flags::to_memory(word);
     let field = (word % 4096) as usize;
     if entry::flags::is_extended(flags) {
-        return read_extended(file, at + PLAIN, end, flags, field);
+        return read_extended(file, at + format::FIXED_SIZE, end, flags, field);
     }
     Head::Fixed {
         flags,
-        size: PLAIN,
+        size: format::FIXED_SIZE,
         field,
     }
 }
@@ -136,7 +127,7 @@ fn padded(file: &[u8], at: usize, end: usize, flags: u32, size: usize, field: us
     requires { ⌜ HeadFits (length (now file)) at end size field ⌝ }
     ensures { λ r. ⌜ r ≡ paddedAt (now (file .entry)) at end flags size field ⌝ }
 {
-    if field == TO_NUL {
+    if field == format::LONG_PATH {
         let path = at + size;
         let n = slices::first_nul(file, path, end);
         match n {
@@ -221,7 +212,7 @@ pub fn measure(
     first: bool,
     prev: usize,
 ) -> Measured
-    ensures { λ r. ⌜ r ≡ measureAt idLength (now (file .entry)) (at .0) (end .0) version first prev ⌝ }
+    ensures { λ r. ⌜ r ≡ measureAt idSize (now (file .entry)) (at .0) (end .0) version first prev ⌝ }
 {
     let a = at.0;
     let e = end.0;

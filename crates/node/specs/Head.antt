@@ -1,7 +1,6 @@
 -- The head of a node of the TREE extension (01, Extensions): name, NUL, signed decimal entry count, space, unsigned decimal subtree count, newline, and an id
 -- unless the count is negative. Defined over the id's length. Assumes nothing.
 use Prim.Native.Nat.{ℕ, _+_, _-_}
-use mathlib.Core.Bool.{Bool, true, false}
 use mathlib.Core.List.{List}
 use lib.ListN.{length, getD}
 use lib.Dec.{ltb, leb, eqb}
@@ -14,7 +13,6 @@ use Rattle.wire.specs.declared.Unsigned.{Unsigned}
 use Rattle.wire.specs.declared.Unsigned.the-variants.{Value, Bad}
 use Rattle.wire.specs.declared.Signed.{Signed}
 use Rattle.wire.specs.declared.Signed.the-variants.{Plain, Negative, NoNumber}
-use Rattle.node.specs.declared.Node.{Node}
 use Rattle.node.specs.declared.Head.{Head}
 use Rattle.node.specs.declared.Head.the-variants.{Is, Nothing}
 

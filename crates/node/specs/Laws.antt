@@ -314,9 +314,6 @@ module _ (ns : List ℕ) (i : ℕ) (x : List ℕ) (hx : length x ≡ 72) (hi : i
       apart-less : (a b : ℕ) → b ≤ a → (a ≡ b → ⊥) → b < a
       apart-less a b l p = ⊎-elim (λ q. q) (λ q. absurd (p (omega arith))) (lt-or-ge b a)
 
-  pub word-kept : (k j : ℕ) → (j ≡ i → ⊥) → k + 8 ≤ 72 → wordAt k (paste ns (i * 72) x 72) j ≡ wordAt k ns j
-  word-kept k j apart h = word-same ns (paste ns (i * 72) x 72) j length-put (λ m l. byte-other j m apart l) k h
-
 pub ruleset puts = (put-full, put-turned, put-large, put-outside, put-whole)
 
 pub ruleset stores = (place-is, word-in, word-out, id-in, id-out, inside-tests, inside-not, name-turned, name-outside, name-part)

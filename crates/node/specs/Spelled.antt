@@ -1,5 +1,5 @@
 -- What a head that was read says of its places and numbers: they lie in the tree's bytes, and fit the store. Assumes nothing.
-use mathlib.Core.Path.{_≡_, refl, sym, ap, subst, _∙_}
+use mathlib.Core.Path.{_≡_, refl, sym, subst, _∙_}
 use mathlib.Core.Bool.{Bool, true, false}
 use mathlib.Core.List.{List, [], _∷_}
 use mathlib.Core.Logic.{_⊎_, inl, inr, ⊎-elim}
@@ -21,7 +21,6 @@ use Rattle.wire.specs.declared.Unsigned.the-variants.{Value, Bad}
 use Rattle.wire.specs.declared.Signed.{Signed}
 use Rattle.wire.specs.declared.Signed.the-variants.{Plain, Negative, NoNumber}
 use Rattle.node.specs.declared.Node.{Node}
-use Rattle.node.specs.declared.Head.{Head}
 use Rattle.node.specs.declared.Head.the-variants.{Is, Nothing}
 use Rattle.node.specs.Head.{countHalf, mostSubtrees, minusOne, spacedAt, endedAt, countedAt, namedAt, headAt}
 

@@ -1,7 +1,7 @@
 -- The node store (01, Extensions: "Nodes go to a lent store in file order, each with name place, count, subtree count, id and parent"): 72 bytes a node. Where the
 -- name starts and ends, count, subtree count and parent are 64 bits each, and 32 bytes are the id's, zero where there is none. Assumes nothing.
 use Prim.Native.Nat.{ℕ, _+_, _-_, _*_, _/_}
-use mathlib.Core.Bool.{Bool, true, false}
+use mathlib.Core.Bool.{Bool, false}
 use mathlib.Core.List.{List, [], _++_}
 use lib.ListN.{length, take, drop, replicate}
 use lib.Dec.{ltb, leb}

@@ -28,9 +28,7 @@ const PARENT: usize = 32;
 
 const ID: usize = 40;
 
-// The bytes of an id in the file (SHA-1), and the bytes that the store keeps for one.
-pub const ID_LENGTH: usize = 20;
-
+// The bytes that the store keeps for an id.
 pub const ID_ROOM: usize = 32;
 
 // The count of a node that is out of date, and the parent of the root: -1.
@@ -125,7 +123,7 @@ pub fn node_head(file: &[u8], at: usize, end: usize) -> Head
                 Signed::NoNumber => Head::Nothing,
                 Signed::Plain(count, n) => {
                     let u = spaced(file, n, end);
-                    ended(file, end, at, stop, count, ID_LENGTH, u)
+                    ended(file, end, at, stop, count, format::ID_SIZE, u)
                 }
                 Signed::Negative(_, n) => {
                     let u = spaced(file, n, end);
@@ -237,7 +235,7 @@ pub fn id(nodes: &[u8], i: usize) -> &[u8]
 {
     if i < nodes.len() / NODE_SIZE {
         let from = i * NODE_SIZE + ID;
-        let to = from + ID_LENGTH;
+        let to = from + format::ID_SIZE;
         &nodes[from..to]
     } else {
         &nodes[0..0]

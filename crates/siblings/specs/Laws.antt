@@ -1,24 +1,23 @@
 -- Laws of siblings in the directions that the proofs of `src/` ask. Assumes nothing.
-use mathlib.Core.Path.{_≡_, refl, sym, ap, subst, _∙_}
+use mathlib.Core.Path.{_≡_, refl, sym, ap, _∙_}
 use mathlib.Core.Bool.{Bool, true, false}
-use mathlib.Core.List.{List, [], _∷_}
-use mathlib.Core.Logic.{_⊎_, inl, inr, ⊎-elim}
-use Prim.Native.Nat.{ℕ, zero, suc, _+_, _-_, _≤_, _<_}
-use native.Mathlib.Nat.{add-zero}
+use mathlib.Core.List.{List, _∷_}
+use mathlib.Core.Logic.{_⊎_, ⊎-elim}
+use Prim.Native.Nat.{ℕ, suc, _+_, _-_, _≤_, _<_}
 use native.Mathlib.Omega.{arith}
 use lib.ListN.{length, getD, take, drop, drop-of-length-le}
-use lib.Dec.{ltb, leb, eqb}
+use lib.Dec.{ltb}
 use lib.Seq.{take-length}
-use borrow.Author.Tests.{lt-ltb, le-ltb, le-leb, lt-leb, eq-eqb, ne-eqb}
+use borrow.Author.Tests.{lt-ltb, le-ltb, eq-eqb, ne-eqb}
 use Rattle.laws.specs.Pick.{pick}
 use Rattle.laws.specs.Lists.{drop-next}
 use Rattle.laws.specs.Tests.{lt-or-ge}
-use Rattle.laws.specs.Order.{Comparison, below, equal, beyond, compared, compared-lt, compared-gt, compared-eq}
+use Rattle.laws.specs.Order.{compared, compared-lt, compared-gt, compared-eq}
 use Rattle.slices.specs.Bytes.{sameBytes}
 use Rattle.slices.specs.Laws.{same-equal}
 use Rattle.node.specs.Store.{parentAt, nameAt}
 use Rattle.siblings.specs.declared.Rising.{Rising}
-use Rattle.siblings.specs.Siblings.{anyIn, some, isChild, twin, repeats, siblingsDiffer}
+use Rattle.siblings.specs.Siblings.{anyIn, twin, repeats, siblingsDiffer}
 use Rattle.siblings.specs.Rising.{isBelow, before, gitBefore, and, risen}
 
 -- ---- by bytes: what is left to compare answers r

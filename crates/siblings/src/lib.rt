@@ -1,7 +1,6 @@
 // Whether the names of a node's children differ. Children in strict order of name are settled while they are read, each compared with the one before it; only
 // where they come in no order that is known here is each compared with all before it.
 ghost use mathlib.Core.Path.{_≡_};
-ghost use lib.ListN.{length};
 ghost use Rattle.slices.specs.Bytes.{sameBytes};
 ghost use Rattle.node.specs.Store.{nameAt};
 ghost use Rattle.siblings.specs.Siblings.{twin, repeats, siblingsDiffer};

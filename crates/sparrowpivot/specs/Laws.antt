@@ -13,8 +13,7 @@ use Rattle.wire.specs.Places.{fileAt}
 use Rattle.wire.specs.declared.FileAt.{FileAt}
 use Rattle.wire.specs.declared.PathAt.{PathAt}
 use Rattle.refusal.specs.Refusal.{not-spelled, no-entry-room, no-stage, path-outside, not-after}
-use Rattle.measure.specs.Entry.{idLength}
-use Rattle.decode.specs.Header.{headerSize}
+use Rattle.format.specs.Format.{headerSize, idSize}
 use Rattle.decode.specs.Entries as entries
 use Rattle.decode.specs.declared.entries.Answer.{Answer as Ran}
 use Rattle.decode.specs.declared.entries.Answer.the-variants as ran
@@ -57,14 +56,14 @@ told-read {a} {rs} {ps} {ns} p q e = (λ k. told (p k) (q k) (rs ∷ ps ∷ ns �
 pub values-read : {a : Answer} {version records paths nodes m t : ℕ} {sparse tree : Bool} → a ≡ answer.Read version sparse tree records paths nodes → m ≡ bit sparse → t ≡ bit tree → _≡_ {A = List ℕ} (version ∷ m ∷ t ∷ records ∷ paths ∷ nodes ∷ 0 ∷ 0 ∷ []) (readValues a)
 values-read {version} {records} {paths} {nodes} q b d = (λ k. version ∷ b k ∷ d k ∷ records ∷ paths ∷ nodes ∷ 0 ∷ 0 ∷ []) ∙ sym (ap readValues q)
 
-module _ (s rs₀ ps₀ rs ps : List ℕ) (version count end : ℕ) (a : Ran) (e : entries.outcome a rs ps ≡ entries.readEntries idLength s (fileAt end) version count 0 (fileAt headerSize) begin rs₀ ps₀) (at-end : end ≡ length s - idLength) where
+module _ (s rs₀ ps₀ rs ps : List ℕ) (version count end : ℕ) (a : Ran) (e : entries.outcome a rs ps ≡ entries.readEntries idSize s (fileAt end) version count 0 (fileAt headerSize) begin rs₀ ps₀) (at-end : end ≡ length s - idSize) where
   abbrev whole : Told
-  whole = tellEntries (entries.readEntries idLength s (fileAt (length s - idLength)) version count 0 (fileAt headerSize) begin rs₀ ps₀)
+  whole = tellEntries (entries.readEntries idSize s (fileAt (length s - idSize)) version count 0 (fileAt headerSize) begin rs₀ ps₀)
 
   as-told : {x : Ran} → a ≡ x → tellEntries (entries.outcome x rs ps) ≡ whole
   as-told q =
       sym (ap (λ (x : Ran). tellEntries (entries.outcome x rs ps)) q) ∙ ap tellEntries e
-      ∙ ap (λ (x : ℕ). tellEntries (entries.readEntries idLength s (fileAt x) version count 0 (fileAt headerSize) begin rs₀ ps₀)) at-end
+      ∙ ap (λ (x : ℕ). tellEntries (entries.readEntries idSize s (fileAt x) version count 0 (fileAt headerSize) begin rs₀ ps₀)) at-end
 
   pub told-done : {next : FileAt} {used : PathAt} {n : ℕ} {sparse : Bool} → a ≡ ran.Done next used sparse → n ≡ bit sparse → told 0 (three (next .0) (used .0) n) (rs ∷ ps ∷ []) ≡ whole
   told-done {next} {used} q b = (λ k. told 0 (three (next .0) (used .0) (b k)) (rs ∷ ps ∷ [])) ∙ as-told q
@@ -130,8 +129,8 @@ module _ (from offset : ℕ) where
   pub is-told : (from ≡ 0 → ⊥) → From offset ≡ extensionsFrom from offset
   is-told h = sym (rw (ne-eqb from 0 h))
 
-pub told-most : (size version : ℕ) {r : ℕ} {x y : Extensions} → x ≡ y → r ≡ maxEntries size x version idLength → r ≡ maxEntries size y version idLength
-told-most size version q e = e ∙ ap (λ (z : Extensions). maxEntries size z version idLength) q
+pub told-most : (size version : ℕ) {r : ℕ} {x y : Extensions} → x ≡ y → r ≡ maxEntries size x version idSize → r ≡ maxEntries size y version idSize
+told-most size version q e = e ∙ ap (λ (z : Extensions). maxEntries size z version idSize) q
 
 -- ---- tables
 
@@ -151,18 +150,18 @@ module _ (ns : List ℕ) (i : ℕ) where
       let is-there = t ∙ ap (λ (x : ℕ). bit (ltb i x)) n in
       (λ k. told 0 (a k .0 ∷ b k .0 ∷ c k ∷ d k ∷ e k ∷ is-there k ∷ 0 ∷ 0 ∷ []) [])
 
-  pub no-id : {n : ℕ} → n ≡ nodesIn ns → n ≤ i → replicate idLength 0 ≡ nodeId ns i
+  pub no-id : {n : ℕ} → n ≡ nodesIn ns → n ≤ i → replicate idSize 0 ≡ nodeId ns i
   unfolding nodeId
   no-id e h = sym (rw (le-ltb i (nodesIn ns) (omega arith)))
 
-  id-length : i < nodesIn ns → length (idAt idLength ns i) ≡ 20
+  id-length : i < nodesIn ns → length (idAt idSize ns i) ≡ 20
   unfolding idAt
-  id-length h = rw (lt-ltb i (nodesIn ns) h) (length-part idLength (i * nodeSize + idPlace) ns (omega arith))
+  id-length h = rw (lt-ltb i (nodesIn ns) h) (length-part idSize (i * nodeSize + idPlace) ns (omega arith))
 
-  pub id-long : {n : ℕ} {part : List ℕ} → part ≡ idAt idLength ns i → n ≡ nodesIn ns → i < n → 20 ≤ length part
+  pub id-long : {n : ℕ} {part : List ℕ} → part ≡ idAt idSize ns i → n ≡ nodesIn ns → i < n → 20 ≤ length part
   id-long p e h = omega (arith, ap length p, id-length (omega arith))
 
-  pub id-copied : (part d : List ℕ) {r : List ℕ} {n : ℕ} → r ≡ paste d 0 part 20 → length d ≡ 20 → part ≡ idAt idLength ns i → n ≡ nodesIn ns → i < n → r ≡ nodeId ns i
+  pub id-copied : (part d : List ℕ) {r : List ℕ} {n : ℕ} → r ≡ paste d 0 part 20 → length d ≡ 20 → part ≡ idAt idSize ns i → n ≡ nodesIn ns → i < n → r ≡ nodeId ns i
   unfolding nodeId
   id-copied part d q l p e h =
       let small : i < nodesIn ns = omega arith in

@@ -4,11 +4,11 @@ use mathlib.Core.List.{List, [], _∷_}
 use lib.ListN.{replicate}
 use lib.Dec.{ltb}
 use Rattle.laws.specs.Pick.{pick}
+use Rattle.format.specs.Format.{idSize}
 use Rattle.entry.specs.Record.{recordsIn, modeAt, flagsAt, stageAt, startAt, endAt, liesInside}
 use Rattle.entry.specs.Stat.{statAt}
 use Rattle.entry.specs.declared.stat.Stat.{Stat}
 use Rattle.node.specs.Store.{nodesIn, nameStartAt, nameEndAt, countAt, subtreesAt, parentAt, idAt}
-use Rattle.measure.specs.Entry.{idLength}
 use Rattle.sparrowpivot.specs.Told.{Told, told, bit}
 
 abbrev pub tellRecord : List ℕ → List ℕ → ℕ → Told
@@ -29,4 +29,4 @@ tellNode ns i =
 
 -- the id of a node, zeros where there is no such node
 unfoldable pub nodeId : List ℕ → ℕ → List ℕ
-nodeId ns i = pick (ltb i (nodesIn ns)) (idAt idLength ns i) (replicate idLength 0)
+nodeId ns i = pick (ltb i (nodesIn ns)) (idAt idSize ns i) (replicate idSize 0)

@@ -1,10 +1,9 @@
 // The extensions that speed up reading, and how many entries a file has room for. Nothing here refuses.
 ghost use mathlib.Core.Path.{_≡_};
 ghost use mathlib.Core.List.{[]};
+ghost use Rattle.format.specs.Format.{idSize};
 ghost use Rattle.sha1.specs.Sha1.{sha1};
-ghost use Rattle.measure.specs.Entry.{idLength};
 ghost use Rattle.decode.specs.Bounds.{maxEntries};
-ghost use Rattle.extension.specs.Signatures.{trailer-size};
 ghost use Rattle.extension.specs.EndOfIndexEntry.{offsetIn};
 ghost use Rattle.extension.specs.IndexEntryOffsetTable.{tableFrom, pairFrom};
 ghost use Rattle.sparrowpivot.specs.Told.{told};
@@ -18,7 +17,7 @@ use wire::FileAt;
 // The EOIE: 1 if there is one, and the offset at which extensions begin.
 #[no_mangle]
 pub extern "C" fn sparrowpivot_eoie(file: &[u8], values: &mut [u64; 8]) -> u32
-    ensures { λ r. ⌜ told r (now (values .exit)) [] ≡ tellOffset (offsetIn trailer-size sha1 (now (file .entry))) ⌝ }
+    ensures { λ r. ⌜ told r (now (values .exit)) [] ≡ tellOffset (offsetIn idSize sha1 (now (file .entry))) ⌝ }
 {
     let a = extension::end_of_index_entry::decode(file);
     match a {
@@ -37,7 +36,7 @@ pub extern "C" fn sparrowpivot_eoie(file: &[u8], values: &mut [u64; 8]) -> u32
 // The first IEOT of a file whose extensions begin at an offset: 1 if there is one, and how many pairs it has.
 #[no_mangle]
 pub extern "C" fn sparrowpivot_ieot_count(file: &[u8], offset: usize, values: &mut [u64; 8]) -> u32
-    ensures { λ r. ⌜ told r (now (values .exit)) [] ≡ tellTable (tableFrom trailer-size (now (file .entry)) offset) ⌝ }
+    ensures { λ r. ⌜ told r (now (values .exit)) [] ≡ tellTable (tableFrom idSize (now (file .entry)) offset) ⌝ }
 {
     let a = extension::index_entry_offset_table::find(file, FileAt(offset));
     match a {
@@ -60,7 +59,7 @@ pub extern "C" fn sparrowpivot_ieot_pair(
     k: usize,
     values: &mut [u64; 8],
 ) -> u32
-    ensures { λ r. ⌜ told r (now (values .exit)) [] ≡ tellPair (pairFrom trailer-size (now (file .entry)) offset k) ⌝ }
+    ensures { λ r. ⌜ told r (now (values .exit)) [] ≡ tellPair (pairFrom idSize (now (file .entry)) offset k) ⌝ }
 {
     let a = extension::index_entry_offset_table::pair(file, FileAt(offset), k);
     match a {
@@ -105,7 +104,7 @@ pub extern "C" fn sparrowpivot_max_entries(
     offset: usize,
     version: u32,
 ) -> u64
-    ensures { λ r. ⌜ r ≡ maxEntries size (extensionsFrom told offset) version idLength ⌝ }
+    ensures { λ r. ⌜ r ≡ maxEntries size (extensionsFrom told offset) version idSize ⌝ }
 {
     let from = extensions_from(told, offset);
     decode::entries::max_entries_possible(size, from, version) as u64

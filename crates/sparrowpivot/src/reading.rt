@@ -4,10 +4,8 @@ ghost use mathlib.Core.List.{[], _∷_};
 ghost use Prim.Native.Nat.{_-_};
 ghost use lib.ListN.{length};
 ghost use Rattle.wire.specs.Places.{fileAt};
-ghost use Rattle.measure.specs.Entry.{idLength};
-ghost use Rattle.decode.specs.Header.{headerSize};
+ghost use Rattle.format.specs.Format.{depthLimit, headerSize, idSize};
 ghost use Rattle.decode.specs.Entries.{readEntries};
-ghost use Rattle.tree.specs.Tree.{depthLimit};
 ghost use Rattle.file.specs.Read.{readFile};
 ghost use Rattle.sparrowpivot.specs.Told.{told};
 ghost use Rattle.sparrowpivot.specs.Reading.{begin, readValues, tellRead, tellEntries};
@@ -58,7 +56,7 @@ pub extern "C" fn sparrowpivot_read(
     nodes: &mut [u8],
     values: &mut [u64; 8],
 ) -> u32
-    ensures { λ r. ⌜ told r (now (values .exit)) (now (records .exit) ∷ now (paths .exit) ∷ now (nodes .exit) ∷ []) ≡ tellRead (readFile idLength depthLimit (now (file .entry)) (now (records .entry)) (now (paths .entry)) (now (nodes .entry))) ⌝ }
+    ensures { λ r. ⌜ told r (now (values .exit)) (now (records .exit) ∷ now (paths .exit) ∷ now (nodes .exit) ∷ []) ≡ tellRead (readFile idSize depthLimit (now (file .entry)) (now (records .entry)) (now (paths .entry)) (now (nodes .entry))) ⌝ }
 {
     let a = file::read(file, records, paths, nodes);
     let all = read_values(a);
@@ -68,12 +66,12 @@ pub extern "C" fn sparrowpivot_read(
 
 // Where the last 20 bytes of n begin; 0 where there are fewer.
 fn before_trailer(n: usize) -> usize
-    ensures { λ r. ⌜ r ≡ n - idLength ⌝ }
+    ensures { λ r. ⌜ r ≡ n - idSize ⌝ }
 {
-    if n < entry::ID_SIZE {
+    if n < format::ID_SIZE {
         return 0;
     }
-    n - entry::ID_SIZE
+    n - format::ID_SIZE
 }
 
 // Reads count entries of an index between its header and its trailer. 0: read, with the place behind the entries, the path bytes used and 1 if the index is sparse
@@ -87,7 +85,7 @@ pub extern "C" fn sparrowpivot_entries(
     paths: &mut [u8],
     values: &mut [u64; 8],
 ) -> u32
-    ensures { λ r. ⌜ told r (now (values .exit)) (now (records .exit) ∷ now (paths .exit) ∷ []) ≡ tellEntries (readEntries idLength (now (file .entry)) (fileAt (length (now (file .entry)) - idLength)) version count 0 (fileAt headerSize) begin (now (records .entry)) (now (paths .entry))) ⌝ }
+    ensures { λ r. ⌜ told r (now (values .exit)) (now (records .exit) ∷ now (paths .exit) ∷ []) ≡ tellEntries (readEntries idSize (now (file .entry)) (fileAt (length (now (file .entry)) - idSize)) version count 0 (fileAt headerSize) begin (now (records .entry)) (now (paths .entry))) ⌝ }
 {
     let end = before_trailer(file.len());
     let before = Before {
@@ -97,7 +95,7 @@ pub extern "C" fn sparrowpivot_entries(
     };
     let a = decode::entries::read_entries(
         file,
-        FileAt(decode::header::SIZE),
+        FileAt(format::HEADER_SIZE),
         FileAt(end),
         version,
         count,

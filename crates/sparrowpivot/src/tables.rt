@@ -2,7 +2,7 @@
 // value is 0.
 ghost use mathlib.Core.Path.{_≡_};
 ghost use mathlib.Core.List.{[]};
-ghost use Rattle.entry.specs.Layout.{idSize};
+ghost use Rattle.format.specs.Format.{idSize};
 ghost use Rattle.entry.specs.Record.{idAt};
 ghost use Rattle.sparrowpivot.specs.Told.{told};
 ghost use Rattle.sparrowpivot.specs.Tables.{tellRecord, tellStat, tellNode, nodeId};
@@ -98,15 +98,15 @@ pub extern "C" fn sparrowpivot_node(nodes: &[u8], i: usize, values: &mut [u64; 8
 }
 
 // The id of node i; zeros where it has none, or where there is no such node.
-fn id_of_node(nodes: &[u8], i: usize) -> [u8; node::ID_LENGTH]
+fn id_of_node(nodes: &[u8], i: usize) -> [u8; format::ID_SIZE]
     ensures { λ r. ⌜ r ≡ nodeId (now (nodes .entry)) i ⌝ }
 {
-    let mut id = [0u8; node::ID_LENGTH];
+    let mut id = [0u8; format::ID_SIZE];
     if node::nodes_in(nodes) <= i {
         return id;
     }
     let part = node::id(nodes, i);
-    slices::copy_bytes(part, 0, node::ID_LENGTH, &mut id, 0);
+    slices::copy_bytes(part, 0, format::ID_SIZE, &mut id, 0);
     id
 }
 

@@ -1,12 +1,12 @@
 -- Where a tree was read, the names of every node's children differ: of each node when its last subtree is done, and then for good, since a node that comes later has
 -- another parent. Assumes nothing.
 use mathlib.Core.Bool.{Bool, true, false}
-use mathlib.Core.Path.{_≡_, refl, sym, ap, subst, _∙_}
+use mathlib.Core.Path.{_≡_, refl, sym, subst, _∙_}
 use mathlib.Core.List.{List}
 use mathlib.Core.Logic.{_⊎_, inl, inr, ⊎-elim}
 use Prim.Native.Nat.{ℕ, zero, suc, _+_, _*_, _-_, _/_, _^_, _≤_, _<_}
 use native.Mathlib.Omega.{arith}
-use lib.Dec.{ltb, eqb, lit≤}
+use lib.Dec.{lit≤}
 use lib.ListN.{length, getD}
 use Rattle.laws.specs.Pick.{pick}
 use Rattle.laws.specs.Tests.{AtMost, at-most, above, at-most?, lt-or-ge}
@@ -18,9 +18,7 @@ use Rattle.node.specs.Store.{putAt, parentAt, nameAt}
 use Rattle.node.specs.Laws.{word-same, name-same}
 use Rattle.siblings.specs.Siblings.{siblingsDiffer}
 use Rattle.siblings.specs.InOrder.{Distinct, differ-distinct}
-use Rattle.tree.specs.declared.Fault.{Fault}
 use Rattle.tree.specs.declared.Fault.the-variants.{Unspelled, Deep, Full}
-use Rattle.tree.specs.declared.Step.{Step}
 use Rattle.tree.specs.declared.Step.the-variants.{Read, Stops}
 use Rattle.tree.specs.Tree.{Out, andThen, kids, settledAs, settled, body, nodeAt}
 use Rattle.tree.specs.Frame.{Kept, not-read, read-used, kids-kept, settled-used, put-long, put-parent, node-kept}

@@ -1,11 +1,11 @@
 -- What the reading of a node leaves as it was: the store's length, every byte of the nodes before it and, where it is read, every byte behind the nodes used. The nodes used grow, and never past the store. By induction
 -- on the depth, over the id's length. Assumes nothing.
 use mathlib.Core.Bool.{Bool, true, false}
-use mathlib.Core.Path.{_≡_, refl, sym, ap, _∙_}
-use mathlib.Core.List.{List, [], _∷_}
+use mathlib.Core.Path.{_≡_, refl, ap, _∙_}
+use mathlib.Core.List.{List}
 use Prim.Native.Nat.{ℕ, zero, suc, _+_, _*_, _-_, _/_, _^_, _≤_, _<_}
 use native.Mathlib.Omega.{arith}
-use lib.Dec.{leb, lit≤}
+use lib.Dec.{lit≤}
 use lib.ListN.{length, getD}
 use lib.Seq.{paste}
 use Rattle.laws.specs.Paste.{getD-after}
@@ -22,9 +22,8 @@ use Rattle.node.specs.Laws.{length-node, length-put, byte-before, put-is, word-
 use Rattle.siblings.specs.Siblings.{siblingsDiffer}
 use Rattle.tree.specs.declared.Fault.{Fault}
 use Rattle.tree.specs.declared.Fault.the-variants.{Unspelled, Deep, Full}
-use Rattle.tree.specs.declared.Step.{Step}
 use Rattle.tree.specs.declared.Step.the-variants.{Read, Stops}
-use Rattle.tree.specs.Tree.{Out, andThen, kids, settledAs, settled, body, nodeAt}
+use Rattle.tree.specs.Tree.{Out, andThen, kids, settledAs, body, nodeAt}
 
 -- an outcome o from `used` nodes in the store ns, that uses at least `least`
 pub record Kept (used least : ℕ) (ns : List ℕ) (o : Out) : Type 0 where

@@ -1,12 +1,12 @@
 -- What holds of every node that a reading stores: proved once over a property of a node in the store, by induction on the depth. Then, of parents: each lies before
 -- its child, and in the subtree that was read. Assumes nothing.
-use mathlib.Core.Bool.{Bool, true, false}
+use mathlib.Core.Bool.{Bool}
 use mathlib.Core.Path.{_≡_, refl, sym, ap, subst, _∙_}
-use mathlib.Core.List.{List, [], _∷_}
-use mathlib.Core.Logic.{_⊎_, inl, inr, ⊎-elim}
+use mathlib.Core.List.{List}
+use mathlib.Core.Logic.{_⊎_, ⊎-elim}
 use Prim.Native.Nat.{ℕ, zero, suc, _+_, _*_, _-_, _/_, _^_, _≤_, _<_}
 use native.Mathlib.Omega.{arith}
-use lib.Dec.{leb, lit≤}
+use lib.Dec.{lit≤}
 use lib.ListN.{length, getD}
 use Rattle.laws.specs.Pick.{pick}
 use Rattle.laws.specs.Tests.{AtMost, at-most, above, at-most?, lt-or-ge}
@@ -14,15 +14,14 @@ use Rattle.node.specs.declared.Node.{Node}
 use Rattle.node.specs.declared.Head.{Head}
 use Rattle.node.specs.declared.Head.the-variants.{Is, Nothing}
 use Rattle.node.specs.Head.{headAt}
-use Rattle.node.specs.Store.{putAt, parentAt, nameAt}
+use Rattle.node.specs.Store.{putAt, parentAt}
 use Rattle.node.specs.Laws.{word-same, name-same}
 use Rattle.siblings.specs.InOrder.{Grows}
-use Rattle.tree.specs.declared.Fault.{Fault}
 use Rattle.tree.specs.declared.Fault.the-variants.{Unspelled, Deep, Full}
 use Rattle.tree.specs.declared.Step.{Step}
 use Rattle.tree.specs.declared.Step.the-variants.{Read, Stops}
 use Rattle.tree.specs.Tree.{Out, andThen, kids, settledAs, settled, body, nodeAt}
-use Rattle.tree.specs.Frame.{Kept, not-read, read-used, then-kept, kids-kept, settled-used, settled-kept, put-long, put-low, put-parent, node-kept}
+use Rattle.tree.specs.Frame.{Kept, not-read, read-used, then-kept, kids-kept, settled-used, settled-kept, put-long, put-parent, node-kept}
 
 -- P of node j asks only for that node's bytes, and holds of each node that is put below a parent of which Q holds, as of each from `least` on and before j
 module _ (idLength : ℕ) (fits : idLength ≤ 32) (s : List ℕ) (end least : ℕ) (Q : ℕ → ℕ → Type 0) (lower : (p j : ℕ) → least ≤ p → p < j → Q p j) (P : ℕ → List ℕ → Type 0)

@@ -1,11 +1,11 @@
 -- Laws of the walk in the directions that the proofs of `src/` ask. Assumes nothing.
 use mathlib.Core.Bool.{Bool, true, false}
-use mathlib.Core.Path.{_≡_, refl, sym, ap, subst, _∙_}
-use mathlib.Core.List.{List, [], _∷_, _++_, append-nil}
+use mathlib.Core.Path.{_≡_, refl, sym, _∙_}
+use mathlib.Core.List.{List, [], _++_, append-nil}
 use Prim.Native.Nat.{ℕ, zero, suc, _+_, _-_, _/_, _^_, _≤_, _<_}
 use native.Mathlib.Numerals.{sub-one}
 use native.Mathlib.Omega.{arith}
-use lib.Dec.{ltb, leb, eqb, lit≤}
+use lib.Dec.{leb, lit≤}
 use lib.ListN.{length, take, drop, replicate, length-replicate, drop-of-length-le}
 use lib.Seq.{paste, take-all}
 use borrow.Author.Tests.{lt-ltb, le-ltb, le-leb, lt-leb, eq-eqb, ne-eqb}
@@ -24,8 +24,8 @@ use Rattle.tree.specs.declared.Fault.the-variants.{Unspelled, Deep, Full
 use Rattle.tree.specs.declared.Step.{Step}
 use Rattle.tree.specs.declared.Step.the-variants.{Read, Stops}
 use Rattle.tree.specs.declared.TreeAnswer.{TreeAnswer}
-use Rattle.tree.specs.declared.TreeAnswer.the-variants.{Tree, Malformed, TooDeep, NoRoom}
-use Rattle.tree.specs.Tree.{Out, andThen, kids, settledAs, settled, body, nodeAt, alone, rootAt, answerOf, wiped, readTree}
+use Rattle.tree.specs.declared.TreeAnswer.the-variants.{Tree}
+use Rattle.tree.specs.Tree.{Out, andThen, kids, settledAs, settled, body, nodeAt, rootAt, answerOf, readTree}
 use Rattle.tree.specs.Inside.{node-grows}
 
 -- ---- a node whose last subtree is done

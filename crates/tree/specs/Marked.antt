@@ -9,7 +9,6 @@ use Rattle.wire.specs.Digits.{isDigit, grown, digitsIn, unsignedAt, signedAt}
 use Rattle.node.specs.Head.{minusOne, spacedAt, endedAt, countedAt, namedAt, headAt}
 use Rattle.node.specs.Store.{numbersOf, idOf, nodeOf, putAt, wordAt, isPart, partOf, nameAt}
 use Rattle.siblings.specs.Siblings.{anyIn, twin, repeats, siblingsDiffer}
-use Rattle.tree.specs.declared.TreeAnswer.{TreeAnswer}
 use Rattle.tree.specs.declared.TreeAnswer.the-variants.{Tree, Malformed, TooDeep, NoRoom}
 use Rattle.tree.specs.Tree.{kids, settledAs, nodeAt, rootAt, readTree}
 

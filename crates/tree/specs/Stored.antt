@@ -1,33 +1,32 @@
 -- What the node store holds where a tree was read: the nodes used are some and lie in the store, the root alone has no parent, every other parent is an earlier node,
 -- names lie in the tree's bytes and hold no NUL, counts are -1 to 2^31 - 1, sibling names are distinct, subtree counts agree with parents; and every byte behind them is as it was. Assumes nothing.
 use mathlib.Core.Bool.{Bool, true, false}
-use mathlib.Core.Path.{_≡_, refl, sym, ap, subst, _∙_}
+use mathlib.Core.Path.{_≡_, refl, ap, subst, _∙_}
 use mathlib.Core.List.{List}
 use mathlib.Core.Logic.{_⊎_, inl, inr, ⊎-elim}
-use Prim.Native.Nat.{ℕ, zero, suc, _+_, _*_, _/_, _^_, _≤_, _<_}
+use Prim.Native.Nat.{ℕ, _+_, _*_, _/_, _^_, _≤_, _<_}
 use native.Mathlib.Omega.{arith}
 use lib.Dec.{ltb, eqb, lit≤}
 use lib.ListN.{length, getD}
 use Rattle.laws.specs.Pick.{pick}
-use Rattle.laws.specs.Tests.{lt-or-ge, AtMost, at-most, above, at-most?, Less, less, not-less, less?}
+use Rattle.laws.specs.Tests.{lt-or-ge}
 use Rattle.node.specs.declared.Node.{Node}
-use Rattle.node.specs.declared.Head.the-variants.{Is, Nothing}
+use Rattle.node.specs.declared.Head.the-variants.{Is}
 use Rattle.node.specs.Head.{countHalf, minusOne, headAt}
 use Rattle.node.specs.Store.{putAt, nameStartAt, nameEndAt, countAt, subtreesAt, parentAt}
-use Rattle.node.specs.Spelled.{Spelled, head-spelled}
+use Rattle.node.specs.Spelled.{head-spelled}
 use Rattle.node.specs.Laws.{word-same}
 use Rattle.siblings.specs.InOrder.{Distinct}
 use Rattle.tree.specs.declared.Fault.{Fault}
 use Rattle.tree.specs.declared.Fault.the-variants.{Unspelled, Deep, Full}
-use Rattle.tree.specs.declared.Step.{Step}
 use Rattle.tree.specs.declared.Step.the-variants.{Read, Stops}
 use Rattle.tree.specs.declared.TreeAnswer.{TreeAnswer}
-use Rattle.tree.specs.declared.TreeAnswer.the-variants.{Tree, Malformed, TooDeep, NoRoom}
+use Rattle.tree.specs.declared.TreeAnswer.the-variants.{Tree}
 use Rattle.tree.specs.Tree.{Out, andThen, nodeAt, alone, rootAt, answerOf, wiped, readTree}
-use Rattle.tree.specs.Frame.{Kept, not-read, read-used, put-start, put-stop, put-count, put-parent, node-kept}
+use Rattle.tree.specs.Frame.{Kept, put-start, put-stop, put-count, put-parent, node-kept}
 use Rattle.tree.specs.Distinct.{node-apart}
 use Rattle.tree.specs.Tally.{children, node-agree}
-use Rattle.tree.specs.Inside.{Below, node-first, node-inner, parents-below}
+use Rattle.tree.specs.Inside.{node-first, node-inner, parents-below}
 
 -- a node's numbers: its name from b to e, and its count c
 pub record Good (s : List ℕ) (end b e c : ℕ) : Type 0 where

@@ -1,8 +1,8 @@
 -- Where a tree was read, every node's subtree count is the number of its children in the store. Assumes nothing.
-use mathlib.Core.Bool.{Bool, true, false}
-use mathlib.Core.Path.{_≡_, refl, sym, ap, subst, _∙_}
+use mathlib.Core.Bool.{Bool}
+use mathlib.Core.Path.{_≡_, refl, sym, subst, _∙_}
 use mathlib.Core.List.{List}
-use mathlib.Core.Logic.{_⊎_, inl, inr, ⊎-elim}
+use mathlib.Core.Logic.{_⊎_, ⊎-elim}
 use Prim.Native.Nat.{ℕ, zero, suc, _+_, _*_, _-_, _/_, _^_, _≤_, _<_}
 use native.Mathlib.Omega.{arith}
 use lib.Dec.{eqb, lit≤}
@@ -13,17 +13,15 @@ use Rattle.laws.specs.Tests.{AtMost, at-most, above, at-most?, lt-or-ge}
 use Rattle.node.specs.declared.Node.{Node}
 use Rattle.node.specs.declared.Head.{Head}
 use Rattle.node.specs.declared.Head.the-variants.{Is, Nothing}
-use Rattle.node.specs.Head.{headAt, mostSubtrees}
+use Rattle.node.specs.Head.{headAt}
 use Rattle.node.specs.Store.{putAt, parentAt, subtreesAt}
-use Rattle.node.specs.Spelled.{Spelled, head-spelled}
+use Rattle.node.specs.Spelled.{head-spelled}
 use Rattle.node.specs.Laws.{word-same}
-use Rattle.tree.specs.declared.Fault.{Fault}
 use Rattle.tree.specs.declared.Fault.the-variants.{Unspelled, Deep, Full}
-use Rattle.tree.specs.declared.Step.{Step}
 use Rattle.tree.specs.declared.Step.the-variants.{Read, Stops}
-use Rattle.tree.specs.Tree.{Out, andThen, kids, settledAs, settled, body, nodeAt}
+use Rattle.tree.specs.Tree.{Out, andThen, kids, settled, body, nodeAt}
 use Rattle.tree.specs.Frame.{Kept, not-read, read-used, kids-kept, settled-used, put-long, put-subtrees, put-parent, node-kept}
-use Rattle.tree.specs.Inside.{Below, node-first, parents-below}
+use Rattle.tree.specs.Inside.{node-first, parents-below}
 use Rattle.tree.specs.Distinct.{kids-outer}
 
 -- how many of the f nodes from i on have the parent k

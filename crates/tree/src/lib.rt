@@ -1,14 +1,10 @@
 // The TREE extension: a node and its subtrees, in file order, into a lent node store. Where the tree is malformed, too deep or too large for the store, every byte
 // lent is zeroed.
 ghost use mathlib.Core.Path.{_≡_};
-ghost use lib.ListN.{length};
 ghost use Rattle.tree.specs.Tree.{nodeAt, settledAs, rootAt, readTree, answerOf, refusalOf};
 ghost use Rattle.siblings.specs.InOrder.{SoFar};
 use node::Head;
 use siblings::Rising;
-
-// How deep a tree may be; the root has depth 1.
-pub const DEPTH_LIMIT: usize = 64;
 
 // Why a walk stops.
 pub enum Fault {
@@ -113,7 +109,15 @@ fn root(file: &[u8], start: usize, end: usize, nodes: &mut [u8]) -> Step
     if file.len() < end {
         return Step::Stops(Fault::Unspelled);
     }
-    let a = one_recursive(file, start, end, nodes, 0, node::MINUS_ONE, DEPTH_LIMIT);
+    let a = one_recursive(
+        file,
+        start,
+        end,
+        nodes,
+        0,
+        node::MINUS_ONE,
+        format::DEPTH_LIMIT,
+    );
     match a {
         Step::Stops(f) => Step::Stops(f),
         Step::Read { next, used } => {

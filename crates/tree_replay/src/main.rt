@@ -2,7 +2,6 @@
 // as parent, name, count, subtree count and id. tests/tree_cases made both files with the oracle; it names the two differences: 9 past depth 64 (D8), and children in
 // file order (D9).
 ghost use mathlib.Core.Path.{_≡_};
-ghost use Prim.Native.Nat.{_≤_};
 ghost use lib.ListN.{length};
 use libc::STDIN_FILENO;
 use libc::STDOUT_FILENO;

@@ -1,6 +1,6 @@
 -- Big-endian numbers of any width ("All numbers are big-endian", 01, How an entry is spelled): what w bytes spell at a place, and the w bytes that spell a
 -- number; each law once, over the width. Assumes nothing.
-use mathlib.Core.Path.{_≡_, refl, sym, ap, _∙_}
+use mathlib.Core.Path.{_≡_, refl, ap, _∙_}
 use mathlib.Core.List.{List, [], _∷_, _++_}
 use Prim.Native.Nat.{ℕ, zero, suc, _+_, _-_, _*_, _/_, _%_, _^_, _≤_, _<_}
 use native.Mathlib.Nat.{add-assoc, pow-suc}
@@ -8,7 +8,7 @@ use native.Mathlib.Omega.{arith}
 use lib.ListN.{length, getD, length-append, List·getD-append}
 use lib.Seq.{paste}
 use Rattle.laws.specs.Lists.{getD-right}
-use Rattle.laws.specs.Paste.{getD-before, getD-pasted, getD-after}
+use Rattle.laws.specs.Paste.{getD-pasted}
 
 -- the number that the w bytes from `at` on spell, the upper first; a byte past the end counts as 0
 unfoldable pub beAt : ℕ → List ℕ → ℕ → ℕ
@@ -42,12 +42,6 @@ be-left w p q k h = be-same w (p ++ q) p k k (λ m l. List·getD-append p q 0 (k
 module _ (w : ℕ) (d : List ℕ) (to : ℕ) (s : List ℕ) (n : ℕ) (hd : to ≤ length d) (hs : n ≤ length s) where
   pub be-pasted : (k : ℕ) → k + w ≤ n → beAt w (paste d to s n) (to + k) ≡ beAt w s k
   be-pasted k h = be-same w (paste d to s n) s (to + k) k (λ m l. rw (add-assoc to k m) (getD-pasted d to s n (k + m) (omega arith) hs hd))
-
-  pub be-before : (k : ℕ) → k + w ≤ to → beAt w (paste d to s n) k ≡ beAt w d k
-  be-before k h = be-same w (paste d to s n) d k k (λ m l. getD-before d to s n (k + m) (omega arith) hd)
-
-  pub be-after : (k : ℕ) → to + n ≤ k → beAt w (paste d to s n) k ≡ beAt w d k
-  be-after k h = be-same w (paste d to s n) d k k (λ m l. getD-after d to s n (k + m) (omega arith) hs hd)
 
 -- what is spelled is read back
 pub be-bytes : (w x : ℕ) → x < 256 ^ w → beAt w (bytesOf w x) 0 ≡ x

@@ -1,7 +1,7 @@
 -- Numbers in digits, over the base and the largest value (01, Extensions: TREE's counts are decimal; `btoi` as settled by running it): one or more digits, leading
 -- zeros allowed; a signed one may begin with `+` or `-`, and `-0` is 0. Assumes nothing.
 use Prim.Native.Nat.{ℕ, zero, suc, _+_, _-_, _*_}
-use mathlib.Core.Bool.{Bool, true, false}
+use mathlib.Core.Bool.{Bool, false}
 use mathlib.Core.List.{List, [], _∷_}
 use lib.ListN.{getD, drop}
 use lib.Dec.{ltb, leb, eqb}

@@ -1,20 +1,18 @@
 -- Laws of the definitions of wire in the directions that proofs ask: the code's bytes and sums, turns of the loops, and where a number ends. Assumes nothing.
 use mathlib.Core.Path.{_≡_, refl, sym, ap, _∙_}
-use mathlib.Core.Bool.{Bool, true, false}
+use mathlib.Core.Bool.{true, false}
 use mathlib.Core.List.{List, [], _∷_, _++_, append-assoc, append-nil}
 use Prim.Native.Nat.{ℕ, zero, suc, _+_, _-_, _*_, _/_, _%_, _^_, _≤_, _<_}
 use native.Mathlib.Nat.{add-zero, add-assoc, pow-suc, pow-succ', div-div-eq-div-mul, le-trans, mul-le-mul-right, div-mul-le-self, div-lt-iff-lt-mul}
 use native.Mathlib.Numerals.{add-one}
 use native.Mathlib.Omega.{arith}
-use lib.ListN.{length, getD, set, drop, length-set}
-use lib.Dec.{ltb, leb, eqb}
+use lib.ListN.{length, getD, set, drop}
 use lib.Seq.{paste, sets-eq}
 use borrow.Author.Tests.{lt-ltb, le-ltb, le-leb, lt-leb, eq-eqb, ne-eqb}
-use Rattle.laws.specs.Pick.{pick}
 use Rattle.laws.specs.Lists.{drop-next}
 use Rattle.laws.specs.Paste.{set-four, paste-then}
 use Rattle.wire.specs.BigEndian.{beAt, bytesOf, length-bytes}
-use Rattle.wire.specs.Groups.{groupsIn, numberAt}
+use Rattle.wire.specs.Groups.{groupsIn}
 use Rattle.wire.specs.Digits.{isDigit, grown, onGrown, digitsIn, unsignedAt, plain, negated, signedAt}
 use Rattle.wire.specs.declared.Number.{Number}
 use Rattle.wire.specs.declared.Number.the-variants.{Is, Cut, Over}
@@ -138,9 +136,6 @@ module _ (v digit base most largest : ℕ) (pos : 0 < base) (q : largest ≡ mos
   module _ (h : v ≤ largest) where
     most-of : v * base ≤ most
     most-of = below-largest v base most (omega arith)
-
-    pub grow-fits : most < 2 ^ 64 → v * base < 2 ^ 64
-    grow-fits k = omega (arith, most-of)
 
     pub grow-under : v * base ≤ most
     grow-under = most-of

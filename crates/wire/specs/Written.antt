@@ -1,7 +1,6 @@
 -- A number written in the fewest digits of a base (01, Writing: TREE's counts are decimal; refusals are printed in decimal), over the base, with the law that it
 -- has a digit at least. Assumes nothing.
-use mathlib.Core.Path.{_≡_, refl, sym, ap, _∙_}
-use mathlib.Core.Bool.{Bool, true, false}
+use mathlib.Core.Path.{_≡_, sym, ap, _∙_}
 use mathlib.Core.List.{List, [], _∷_, _++_}
 use Prim.Native.Nat.{ℕ, zero, suc, _+_, _/_, _%_, _≤_, _<_}
 use native.Mathlib.Nat.{div-lt-self}
@@ -47,12 +46,6 @@ digits-more base x b h =
     let p : 0 < x = omega arith in
     let d : x / base < x = div-lt-self p b in
     rw (le-ltb x base h) (ap (λ (l : List ℕ). l ++ ((48 + x % base) ∷ [])) (digits-enough base x (suc (x / base)) (x / base) b d (omega arith)))
-
-pub digits-some : (base x : ℕ) → 1 < base → 0 < length (digitsOf base x)
-digits-some base x b =
-    ⊎-elim (λ l. rw (digits-one base x l) (omega arith))
-    (λ l. rw (digits-more base x b l) (omega (arith, length-append (digitsOf base (x / base)) ((48 + x % base) ∷ []))))
-    (lt-or-ge x base)
 
 -- ---- turns of the code
 

@@ -1,0 +1,19 @@
+-- Numbers of the index format that more than one crate names, each once (01, "How an entry is spelled", "Extensions", "Writing"). What 02 asks to change, an id's length (A9)
+-- and the depth (A2), is said here. Assumes nothing.
+use Prim.Native.Nat.{ℕ}
+
+-- the bytes of an id, and so of the trailer
+abbrev pub idSize : ℕ
+idSize = 20
+
+-- signature, version and count
+abbrev pub headerSize : ℕ
+headerSize = 12
+
+-- an extension's signature and size
+abbrev pub extensionHeaderSize : ℕ
+extensionHeaderSize = 8
+
+-- "depth is at most 64"; the root has depth 1
+abbrev pub depthLimit : ℕ
+depthLimit = 64

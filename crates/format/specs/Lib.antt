@@ -1,0 +1,2 @@
+-- The numbers of the index format. Assumes nothing.
+pub mod Format
