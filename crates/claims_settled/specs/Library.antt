@@ -29,7 +29,7 @@ pub entries-settled : Settles sparrowpivot.reading.sparrowpivot_entries.Kinds.ps
 entries-settled κs a z z′ w w′ = settled (λ (t : Told). (t .code, (tt, (tt, (tt, (getD (t .stores) 0 [], (getD (t .stores) 1 [], (t .values, tt))))))))
 
 pub write-settled : Settles sparrowpivot.writing.sparrowpivot_write.Kinds.ps sparrowpivot.writing.sparrowpivot_write.Kinds.r sparrowpivot.writing.sparrowpivot_write.Reads.Learnt
-write-settled κs a z z′ w w′ = settled (λ (t : Told). (t .code, (tt, (tt, (tt, (tt, (tt, (getD (t .stores) 0 [], (t .values, tt))))))))))
+write-settled κs a z z′ w w′ = settled (λ (t : Told). (t .code, (tt, (tt, (tt, (tt, (tt, (getD (t .stores) 0 [], (t .values, tt)))))))))
 
 pub lookup-settled : Settles sparrowpivot.searching.sparrowpivot_lookup.Kinds.ps sparrowpivot.searching.sparrowpivot_lookup.Kinds.r sparrowpivot.searching.sparrowpivot_lookup.Reads.Learnt
 lookup-settled κs a z z′ w w′ = settled (λ (t : Told). (t .code, (tt, (tt, (tt, (tt, (t .values, tt)))))))
