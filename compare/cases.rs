@@ -2,6 +2,8 @@
 use crate::generate::{key, stage};
 use crate::library::{self, Store};
 use crate::model::{self, hex, Entry, Reading, Rooms, Row, Run, NODE, RECORD, ROWS};
+use crate::write_cases::Table;
+use crate::writing;
 use std::collections::BTreeMap;
 
 /// A question that the oracle understands as one line.
@@ -14,6 +16,9 @@ pub enum Case {
     Max(usize, Option<usize>, u32),
     Order(Vec<Entry>),
     Lookup(Vec<Entry>, Vec<u8>, u32),
+    Write(Table),
+    /// a file that the library wrote
+    Own(Vec<u8>),
 }
 
 /// A fault planted for the self-test.
@@ -30,6 +35,8 @@ pub enum Plant {
     Beyond,
     /// the library's number (an index, a count, an offset) is one more
     Number,
+    /// a byte of a written file is changed after the call
+    Written,
     /// a rule is forgotten: the row counts as unknown
     Forgotten(Row),
 }
@@ -47,7 +54,7 @@ pub fn unhex(s: &str) -> Vec<u8> {
     (0..s.len() / 2).map(|i| u8::from_str_radix(&s[2 * i..2 * i + 2], 16).unwrap()).collect()
 }
 
-fn table_text(t: &[Entry]) -> String {
+pub fn table_text(t: &[Entry]) -> String {
     let one = |e: &Entry| {
         let fields: Vec<String> = e.fields.iter().map(u32::to_string).collect();
         format!("{},{},{},{}", fields.join(","), hex(&e.id), e.flags, hex(&e.path))
@@ -55,7 +62,7 @@ fn table_text(t: &[Entry]) -> String {
     if t.is_empty() { "-".into() } else { t.iter().map(one).collect::<Vec<_>>().join(";") }
 }
 
-fn table_of(s: &str) -> Vec<Entry> {
+pub fn table_of(s: &str) -> Vec<Entry> {
     let one = |r: &str| {
         let w: Vec<&str> = r.split(',').collect();
         let n = |i: usize| w[i].parse::<u32>().unwrap();
@@ -67,12 +74,13 @@ fn table_of(s: &str) -> Vec<Entry> {
 impl Case {
     pub fn line(&self) -> String {
         match self {
-            Case::File(s) => hex(s),
+            Case::File(s) | Case::Own(s) => hex(s),
             Case::Eoie(s) => format!("eoie {}", hex(s)),
             Case::Ieot(s) => format!("ieotfind {}", hex(s)),
             Case::Max(size, from, version) => format!("max {size} {} {version}", from.map_or("-".into(), |o| o.to_string())),
             Case::Order(t) => format!("tverify {}", table_text(t)),
             Case::Lookup(t, path, stage) => format!("tlookup {} {stage} {}", if path.is_empty() { "-".into() } else { hex(path) }, table_text(t)),
+            Case::Write(t) => t.line(),
         }
     }
     pub fn of_line(l: &str) -> Case {
@@ -84,6 +92,7 @@ impl Case {
             "max" => Case::Max(w[1].parse().unwrap(), w[2].parse().ok(), w[3].parse().unwrap()),
             "tverify" => Case::Order(table_of(w[1])),
             "tlookup" => Case::Lookup(table_of(w[3]), if w[1] == "-" { vec![] } else { s() }, w[2].parse().unwrap()),
+            "twrite" => Case::Write(Table::of_words(&w)),
             h => Case::File(unhex(h)),
         }
     }
@@ -142,10 +151,10 @@ impl Judge {
         self.alike += other.alike;
         self.failures += other.failures;
     }
-    fn class(&mut self, name: &'static str) {
+    pub fn class(&mut self, name: &'static str) {
         *self.classes.entry(name).or_default() += 1;
     }
-    fn parts(&mut self, row: Option<Row>) -> bool {
+    pub fn parts(&mut self, row: Option<Row>) -> bool {
         match row {
             Some(r) if self.plant != Plant::Forgotten(r) => {
                 *self.rows.entry(r).or_default() += 1;
@@ -159,7 +168,7 @@ impl Judge {
         self.guarded(|j| j.compare(case, said), || case.line());
     }
     /// An assertion on the way (a value beside those lent was written, an unused one is not 0) is a failure of this input too.
-    fn guarded(&mut self, run: impl FnOnce(&mut Judge), input: impl Fn() -> String) {
+    pub fn guarded(&mut self, run: impl FnOnce(&mut Judge), input: impl Fn() -> String) {
         let ended = std::panic::catch_unwind(std::panic::AssertUnwindSafe(|| run(self)));
         if ended.is_err() {
             self.fail("an assertion, see above", &input(), "", "");
@@ -169,7 +178,8 @@ impl Judge {
         let changed = said.map(|s| if self.plant == Plant::Answer { format!("{s} ") } else { s.to_string() });
         let said = changed.as_deref();
         match case {
-            Case::File(s) => self.file(s, said),
+            Case::File(s) => self.file(s, said, false),
+            Case::Own(s) => self.file(s, said, true),
             Case::Eoie(s) => {
                 let ours = library::eoie(s).map(|o| o + (self.plant == Plant::Number) as u64);
                 let rule = model::eoie(s).map(|o| o as u64);
@@ -195,6 +205,7 @@ impl Judge {
             }
             Case::Order(t) => self.order(case, t, said),
             Case::Lookup(t, path, stage) => self.lookup(case, t, path, *stage, said),
+            Case::Write(t) => self.write(t, said),
         }
     }
     fn same(&mut self, case: &Case, ours: &str, rule: &str, said: Option<&str>) {
@@ -242,7 +253,7 @@ impl Judge {
             }
         }
     }
-    fn file(&mut self, s: &[u8], said: Option<&str>) {
+    fn file(&mut self, s: &[u8], said: Option<&str>, own: bool) {
         let rule = model::ours(s, model::ALL);
         let need = needed(&rule);
         let rooms = Rooms { records: need.records + 2 * RECORD + 5, paths: need.paths + 77, nodes: need.nodes + NODE + 3 };
@@ -262,9 +273,10 @@ impl Judge {
         if plain != theirs || (rust.error.is_none() && !said.contains(&flags(rust.eoie, rust.ieot))) {
             return self.fail("the Rust against the rules of DIFFERENCES", &hex(s), &theirs, said);
         }
+        let row = if rust.row == Some(Row::D3) && (own || writing::is_written(s)) { Some(Row::D12) } else { rust.row };
         if plain == text {
             self.alike += 1;
-        } else if !self.parts(rust.row) {
+        } else if !self.parts(row) {
             self.fail("against the Rust", &hex(s), &text, said);
         }
     }

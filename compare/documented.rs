@@ -2,6 +2,8 @@
 use crate::cases::{unhex, Case};
 use crate::generate::{extension, header};
 use crate::model::{Entry, Row};
+use crate::write_cases::Table;
+use crate::writing;
 
 /// An entry of version 2, mode 100644, all else zero.
 fn entry(path: &[u8]) -> Vec<u8> {
@@ -24,6 +26,9 @@ pub fn all() -> Vec<(&'static str, Case, Option<Row>)> {
     let file = |parts: &[&[u8]]| Case::File([parts.concat(), z.clone()].concat());
     let hex = unhex;
     let deep = [b"\0-1 1\n".repeat(64), b"\0-1 0\n".to_vec()].concat();
+    let record = |mode: u32, path: Vec<u8>| Entry { fields: [0, 0, 0, 0, 0, 0, mode, 0, 0, 0], id: [0; 20], flags: 0, path };
+    let table = |entries: Vec<Entry>, tree: Option<Vec<u8>>| Table { entries, word: "all", sparse: false, tree };
+    let long = table(vec![record(0o100644, vec![b'a'; 4095]), record(0o100644, b"b".to_vec())], None);
     let twice = Entry { fields: [0; 10], id: [0; 20], flags: 0, path: b"a".to_vec() };
     let v4 = |number: &str, suffix: &[u8]| [zeros(62), hex(number), suffix.to_vec()].concat();
     let id = [7u8; 20];
@@ -44,6 +49,12 @@ pub fn all() -> Vec<(&'static str, Case, Option<Row>)> {
         ("D7-cut", file(&[&header(2, 0), b"ABCD", &hex("00000002"), b"x"]), Some(Row::D7)),
         ("D8", file(&[&header(2, 0), &extension(b"TREE", &deep)]), Some(Row::D8)),
         ("D9", file(&[&header(2, 0), &extension(b"TREE", b"\0-1 2\nb\0-1 0\na\0-1 0\n")]), Some(Row::D9)),
+        // the Rust's decoder sorts siblings, so its writer cannot be given them in another order
+        ("D10", Case::Write(table(vec![], Some(b"\0-1 2\nb\0-1 0\na\0-1 0\n".to_vec()))), None),
+        ("D11, depth 65", Case::Write(table(vec![], Some(deep))), Some(Row::D11)),
+        ("D12", Case::Write(long.clone()), None),
+        ("D12, read back", Case::File(writing::ours(&long.lent(), long.asked()).unwrap().1), Some(Row::D12)),
+        ("D13", Case::Write(table(vec![record(u32::MAX, b"a".to_vec())], None)), None),
         ("D15", Case::Lookup(vec![twice.clone(), twice.clone(), twice], b"a".to_vec(), 0), Some(Row::D15)),
         ("extended-in-v2", file(&[&header(2, 1), &changed(entry(b"\x20\0a"), 60, &hex("4001"))]), None),
         ("link", file(&[&header(2, 0), &extension(b"link", b"")]), None),

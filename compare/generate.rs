@@ -320,6 +320,49 @@ pub fn table(r: &mut Rng) -> Vec<Entry> {
     t
 }
 
+/// A table to be written: as above, with more of the modes that git knows, and some paths near and above the longest length that an entry can state.
+pub fn written_table(r: &mut Rng) -> Vec<Entry> {
+    let mut t = table(r);
+    if r.one_in(2) {
+        t.iter_mut().for_each(|e| e.fields[6] = r.pick(&[0o100644, 0o100644, 0o100755, 0o120000, 0o160000, 0o40000]));
+    }
+    if t.len() < 14 && r.one_in(12) {
+        for e in &mut t {
+            if r.one_in(2) {
+                e.path = vec![r.pick(b"ab/\xff"); r.pick(&[4094, 4095, 4096, 4097, 4103, 5000, 4094 + r.clone().below(906)])];
+            }
+        }
+    }
+    t
+}
+
+/// Changes a few bytes of a node table so that it may be proper no more: numbers that are just right or just wrong, at any place.
+pub fn spoil(r: &mut Rng, nodes: &mut Vec<u8>, names: &mut Vec<u8>) {
+    match r.below(8) {
+        0 => nodes.truncate(r.below(nodes.len() + 1)),
+        1 => names.truncate(r.below(names.len() + 1)),
+        2 if !names.is_empty() => {
+            let i = r.below(names.len());
+            names[i] = r.pick(&[0, b'a']);
+        }
+        3 if nodes.len() > 144 => {
+            // two nodes change places, or one stands twice
+            let (a, b) = (72 * r.below(nodes.len() / 72), 72 * r.below(nodes.len() / 72));
+            let one = nodes[a..a + 72].to_vec();
+            nodes.copy_within(b..b + 72, a);
+            if r.one_in(2) {
+                nodes[b..b + 72].copy_from_slice(&one);
+            }
+        }
+        _ if nodes.len() >= 72 => {
+            let at = 72 * r.below(nodes.len() / 72) + 8 * r.below(5);
+            let v = r.pick(&[0, 1, 2, 3, 1 << 31, (1 << 31) - 1, u32::MAX as u64, u64::MAX, u64::MAX - 1, names.len() as u64, names.len() as u64 + 1, 1 << 63]);
+            nodes[at..at + 8].copy_from_slice(&v.to_be_bytes());
+        }
+        _ => {}
+    }
+}
+
 pub fn table_path(r: &mut Rng) -> Vec<u8> {
     let n = r.below(6);
     match r.below(6) {

@@ -1,23 +1,29 @@
 //! The static library, called as C calls it, over stores whose every byte is known before the call.
 use crate::model::{Entry, Node, Nodes, Reading, Rooms, NODE, RECORD};
+use crate::writing::Lent;
 
-#[link(name = "sparrowpivot", kind = "static")]
-extern "C" {
-    fn sparrowpivot_read(file: *const u8, n: usize, records: *mut u8, nr: usize, paths: *mut u8, np: usize, nodes: *mut u8, nn: usize, values: *mut u64) -> u32;
-    fn sparrowpivot_entries(file: *const u8, n: usize, version: u32, count: usize, records: *mut u8, nr: usize, paths: *mut u8, np: usize, values: *mut u64) -> u32;
-    fn sparrowpivot_record(records: *const u8, nr: usize, paths: *const u8, np: usize, i: usize, values: *mut u64) -> u32;
-    fn sparrowpivot_record_stat(records: *const u8, nr: usize, i: usize, values: *mut u64) -> u32;
-    fn sparrowpivot_record_id(records: *const u8, nr: usize, i: usize, out: *mut u8);
-    fn sparrowpivot_node(nodes: *const u8, nn: usize, i: usize, values: *mut u64) -> u32;
-    fn sparrowpivot_node_id(nodes: *const u8, nn: usize, i: usize, out: *mut u8);
-    fn sparrowpivot_lookup(records: *const u8, nr: usize, paths: *const u8, np: usize, key: *const u8, nk: usize, stage: u32, values: *mut u64) -> u32;
-    fn sparrowpivot_check_order(records: *const u8, nr: usize, paths: *const u8, np: usize, values: *mut u64) -> u32;
-    fn sparrowpivot_eoie(file: *const u8, n: usize, values: *mut u64) -> u32;
-    fn sparrowpivot_ieot_count(file: *const u8, n: usize, offset: usize, values: *mut u64) -> u32;
-    fn sparrowpivot_ieot_pair(file: *const u8, n: usize, offset: usize, k: usize, values: *mut u64) -> u32;
-    fn sparrowpivot_max_entries(size: usize, told: u32, offset: usize, version: u32) -> u64;
-    fn sparrowpivot_sha1(bytes: *const u8, n: usize, out: *mut u8);
+/// As include/sparrowpivot.h declares them.
+pub mod raw {
+    #[link(name = "sparrowpivot", kind = "static")]
+    extern "C" {
+        pub fn sparrowpivot_read(file: *const u8, n: usize, records: *mut u8, nr: usize, paths: *mut u8, np: usize, nodes: *mut u8, nn: usize, values: *mut u64) -> u32;
+        pub fn sparrowpivot_entries(file: *const u8, n: usize, version: u32, count: usize, records: *mut u8, nr: usize, paths: *mut u8, np: usize, values: *mut u64) -> u32;
+        pub fn sparrowpivot_write(records: *const u8, nr: usize, paths: *const u8, np: usize, nodes: *const u8, nn: usize, names: *const u8, nm: usize, options: u32, out: *mut u8, no: usize, values: *mut u64) -> u32;
+        pub fn sparrowpivot_record(records: *const u8, nr: usize, paths: *const u8, np: usize, i: usize, values: *mut u64) -> u32;
+        pub fn sparrowpivot_record_stat(records: *const u8, nr: usize, i: usize, values: *mut u64) -> u32;
+        pub fn sparrowpivot_record_id(records: *const u8, nr: usize, i: usize, out: *mut u8);
+        pub fn sparrowpivot_node(nodes: *const u8, nn: usize, i: usize, values: *mut u64) -> u32;
+        pub fn sparrowpivot_node_id(nodes: *const u8, nn: usize, i: usize, out: *mut u8);
+        pub fn sparrowpivot_lookup(records: *const u8, nr: usize, paths: *const u8, np: usize, key: *const u8, nk: usize, stage: u32, values: *mut u64) -> u32;
+        pub fn sparrowpivot_check_order(records: *const u8, nr: usize, paths: *const u8, np: usize, values: *mut u64) -> u32;
+        pub fn sparrowpivot_eoie(file: *const u8, n: usize, values: *mut u64) -> u32;
+        pub fn sparrowpivot_ieot_count(file: *const u8, n: usize, offset: usize, values: *mut u64) -> u32;
+        pub fn sparrowpivot_ieot_pair(file: *const u8, n: usize, offset: usize, k: usize, values: *mut u64) -> u32;
+        pub fn sparrowpivot_max_entries(size: usize, told: u32, offset: usize, version: u32) -> u64;
+        pub fn sparrowpivot_sha1(bytes: *const u8, n: usize, out: *mut u8);
+    }
 }
+use raw::*;
 
 /// What every lent byte holds before a call, and what stands around every store.
 pub const SENTINEL: u8 = 0xa7;
@@ -106,6 +112,14 @@ pub fn entries(file: &[u8], version: u32, count: usize, rooms: Rooms) -> (u32, [
     let (r, p) = (records.lent_mut(), paths.lent_mut());
     let n = unsafe { sparrowpivot_entries(file.as_ptr(), file.len(), version, count, r.as_mut_ptr(), r.len(), p.as_mut_ptr(), p.len(), v.lend()) };
     (n, v.told(), records, paths)
+}
+
+/// A table written into an output of so many bytes: the number returned, the eight values, and the output.
+pub fn write(l: &Lent, options: u32, room: usize) -> (u32, [u64; 8], Store) {
+    let (mut out, mut v) = (Store::new(room), Values::new());
+    let (r, p, n, m, o) = (&l.records, &l.paths, &l.nodes, &l.names, out.lent_mut());
+    let number = unsafe { sparrowpivot_write(r.as_ptr(), r.len(), p.as_ptr(), p.len(), n.as_ptr(), n.len(), m.as_ptr(), m.len(), options, o.as_mut_ptr(), o.len(), v.lend()) };
+    (number, v.told(), out)
 }
 
 fn record(records: &Store, paths: &Store, i: usize) -> Option<Entry> {

@@ -1,18 +1,24 @@
 //! Compares the library with the Rust by running; `compare/run` builds and starts it.
-//!     compare [--oracle PROGRAM] [--answers FILE] [--differences FILE] [--git FOLDER] [--seed N] [--long] [--self-test] [--make-answers]
+//!     compare [--oracle PROGRAM] [--answers FILE] [--differences FILE] [--git FOLDER] [--seed N] [--long] [--hostile [--rounds N]] [--self-test] [--make-answers]
 //! Every answer is compared twice: with document 01's rules, written once more in model.rs, answer, values and every byte lent; and with the Rust. Where the two
 //! part, a row of docs/DIFFERENCES.md has to say so, and what the Rust then answers; all else is a failure, printed with its input.
 mod cases;
 mod documented;
 mod generate;
+mod hostile;
 mod library;
 mod model;
 mod oracle;
+mod write_cases;
+mod writing;
 
 use cases::{Case, Judge, Plant};
 use generate::{extension, groups, header, Rng};
 use oracle::Oracle;
+use std::process::Command;
 use std::time::Instant;
+use write_cases::Table;
+use writing::{Asked, Lent};
 
 struct Options {
     oracle: Oracle,
@@ -23,10 +29,14 @@ struct Options {
     times: usize,
     self_test: bool,
     make_answers: bool,
+    hostile: bool,
+    /// one turn of hostile input, as this program starts itself
+    turn: Option<(hostile::Turn, hostile::Fault)>,
+    rounds: u64,
 }
 
 fn options() -> Options {
-    let mut o = Options { oracle: Oracle(None), answers: None, differences: None, git: None, seed: 1, times: 1, self_test: false, make_answers: false };
+    let mut o = Options { oracle: Oracle(None), answers: None, differences: None, git: None, seed: 1, times: 1, self_test: false, make_answers: false, hostile: false, turn: None, rounds: 500_000 };
     let mut a = std::env::args().skip(1);
     let mut next = |w: &str| a.next().map(|x| if x.is_empty() { panic!("{w} wants a value") } else { x });
     while let Some(w) = next("") {
@@ -36,7 +46,10 @@ fn options() -> Options {
             "--differences" => o.differences = next(&w),
             "--git" => o.git = next(&w),
             "--seed" => o.seed = next(&w).unwrap().parse().expect("a number"),
-            "--long" => o.times = 20,
+            "--long" => (o.times, o.hostile) = (20, true),
+            "--hostile" => (o.times, o.hostile) = (0, true),
+            "--rounds" => o.rounds = next(&w).unwrap().parse().expect("a number"),
+            "--hostile-turn" => o.turn = Some(hostile::turn_of(&next(&w).unwrap(), &next(&w).unwrap())),
             "--self-test" => o.self_test = true,
             "--make-answers" => o.make_answers = true,
             _ => panic!("see the head of compare/main.rs"),
@@ -111,8 +124,20 @@ fn tables(j: &mut Judge, oracle: &Oracle, seed: u64, n: usize) {
         }
         run(j, oracle, &cases);
     }
-    // WRITER: `twrite all|none|tree|eoie|both SPARSE TREEHEX|- TABLE` belongs here, on the same tables, once the library exports sparrowpivot_write: sizes, every
-    // byte, refusals 12 and 14 to 16, and D10 to D13 as rows.
+}
+
+/// b. Generated tables, written: every table against the Rust, one in eight and those with long paths also read back by it; and as many with faults, by 01's rules.
+fn written(j: &mut Judge, oracle: &Oracle, seed: u64, n: usize) {
+    let mut r = Rng::new(seed ^ 0x3217e);
+    for some in (0..n).collect::<Vec<_>>().chunks(2000) {
+        let all: Vec<Table> = some.iter().map(|_| Table::generated(&mut r)).collect();
+        all.iter().for_each(|t| j.write_faults(&mut r, t));
+        let again = |t: &&Table| t.entries.len() % 8 == 3 || t.entries.iter().any(|e| e.path.len() >= 4095);
+        let files: Vec<Case> = all.iter().filter(again).filter_map(|t| Some(Case::Own(writing::ours(&t.lent(), t.asked()).ok()?.1))).collect();
+        run(j, oracle, &all.into_iter().map(Case::Write).collect::<Vec<_>>());
+        run(j, oracle, &files);
+    }
+    (0..2).for_each(|more| j.too_large(more));
 }
 
 /// c. Parts, exhaustively where short.
@@ -261,10 +286,59 @@ fn installed_git(j: &mut Judge, oracle: &Oracle, folder: &str) -> usize {
         let from = library::eoie(&file);
         let pairs = from.and_then(|o| library::ieot(&file, o as usize)).map_or(0, |p| p.len());
         println!("    {name}: version {}, {} entries, {} nodes, {}{}{pairs} pairs of IEOT", ours.version, ours.entries.len(), ours.nodes.len(), if ours.sparse { "sparse, " } else { "" }, if from.is_some() { "EOIE, " } else { "" });
+        written_again(j, folder, name, &file, &listed);
         run(j, oracle, &[Case::File(file.clone()), Case::Eoie(file)]);
     }
-    // WRITER: every index written again by sparrowpivot_write and listed alike by git belongs here.
     names.len()
+}
+
+/// What git lists of an index file: every entry, and with `--debug` its stat data and flags. The folder has a repository for it, and one with a sparse checkout.
+fn git_lists(folder: &str, index: &str, sparse: bool, more: &[&str]) -> Vec<u8> {
+    let mut git = Command::new("git");
+    for (name, _) in std::env::vars().filter(|v| v.0.starts_with("GIT_")) {
+        git.env_remove(name);
+    }
+    git.env("GIT_CONFIG_GLOBAL", "/dev/null").env("GIT_CONFIG_NOSYSTEM", "1").env("LC_ALL", "C");
+    git.env("GIT_INDEX_FILE", std::fs::canonicalize(index).unwrap());
+    // with more than one thread git looks at EOIE
+    git.args(["-C", &format!("{folder}/{}", if sparse { "sparse" } else { "plain" }), "-c", "index.threads=4", "ls-files", "--sparse", "--stage", "-z"]).args(more);
+    let out = git.output().expect("git runs");
+    if !out.status.success() {
+        return [b"git refuses: ".as_slice(), &out.stderr].concat();
+    }
+    out.stdout
+}
+
+/// An index of git written again, with and without TREE and EOIE: git lists it as before, with the same stat data and flags.
+fn written_again(j: &mut Judge, folder: &str, name: &str, file: &[u8], listed: &[u8]) {
+    let need = cases::needed(&model::ours(file, model::ALL));
+    let read = library::read(file, need, 0);
+    let lent = Lent { records: read.records.lent().to_vec(), paths: read.paths.lent().to_vec(), nodes: read.nodes.lent().to_vec(), names: file.to_vec() };
+    let sparse = read.reading.sparse;
+    let before = git_lists(folder, &format!("{folder}/data/{name}"), sparse, &["--debug"]);
+    for (tree, eoie) in [(false, false), (false, true), (true, false), (true, true)] {
+        let asked = Asked { given: read.reading.tree, tree, eoie, sparse, unhashed: false };
+        let rule = writing::ours(&lent, asked);
+        let size = rule.as_ref().map_or(0, |w| w.1.len());
+        let (_, _, out) = library::write(&lent, asked.number(), size);
+        let place = format!("{folder}/written");
+        std::fs::write(&place, out.lent()).unwrap();
+        let (now, debug) = (git_lists(folder, &place, sparse, &[]), git_lists(folder, &place, sparse, &["--debug"]));
+        if !j.write_into(&lent, asked, 0, &rule, size + 100) {
+            continue;
+        }
+        if now != listed || debug != before {
+            let (ours, wanted) = if now != listed { (&now, listed) } else { (&debug, &before[..]) };
+            let short = |s: &[u8]| String::from_utf8_lossy(&s[..s.len().min(300)]).into_owned();
+            j.fail(&format!("git's listing of {name}, written with {asked:?}"), "see the folder's data", &short(ours), &short(wanted));
+            continue;
+        }
+        j.alike += 1;
+        j.class("indexes of git, written again and listed alike by git");
+        if out.lent() == file {
+            j.class("indexes of git, written again byte for byte");
+        }
+    }
 }
 
 /// e. Lent sizes.
@@ -279,7 +353,8 @@ fn sizes(j: &mut Judge, seed: u64, n: usize) -> usize {
             j.fail("SHA-1", &model::hex(&s), "", "");
         }
     }
-    (0..n).map(|_| j.sizes(&generate::file(&mut r))).sum()
+    let reads: usize = (0..n).map(|_| j.sizes(&generate::file(&mut r))).sum();
+    reads + (0..n).map(|_| j.write_sizes(&Table::generated(&mut r))).sum::<usize>()
 }
 
 /// f. The kept answers: one question a line, `=`, and what the oracle answered.
@@ -314,6 +389,8 @@ fn make_answers(oracle: &Oracle, seed: u64) {
             cases.extend(lookups(&mut r, &t, 1));
         }
     }
+    let tables: Vec<Table> = (0..2000).map(|_| Table::generated(&mut r)).collect();
+    cases.extend(tables.into_iter().map(Case::Write).filter(|c| c.line().len() < 600));
     (0..20).for_each(|i| cases.push(Case::Max(100 + 61 * i, (i % 3 == 0).then_some(17 * i), 2 + i as u32 % 3)));
     let said = oracle.ask(&cases.iter().map(Case::line).collect::<Vec<_>>());
     println!("# What the Rust answers, for where it cannot be run: one question to a line as `oracle batch` takes it, then what it answers.");
@@ -335,7 +412,7 @@ fn make_answers(oracle: &Oracle, seed: u64) {
 
 /// Every planted fault must be caught, and nothing where none is planted.
 fn self_test(o: &Options, list: &str) -> bool {
-    let mut plants = vec![Plant::Nothing, Plant::Input, Plant::Answer, Plant::Record, Plant::Beyond, Plant::Number];
+    let mut plants = vec![Plant::Nothing, Plant::Input, Plant::Answer, Plant::Record, Plant::Beyond, Plant::Number, Plant::Written];
     plants.extend(model::ROWS.iter().map(|r| Plant::Forgotten(r.0)));
     let mut good = true;
     for plant in plants {
@@ -345,6 +422,7 @@ fn self_test(o: &Options, list: &str) -> bool {
             let mut other = Judge::new(plant);
             files(&mut j, &mut other, &o.oracle, o.seed, 1000);
             tables(&mut other, &o.oracle, o.seed, 500);
+            written(&mut other, &o.oracle, o.seed, 500);
             let both = plant == Plant::Nothing || matches!(plant, Plant::Input | Plant::Record | Plant::Beyond | Plant::Forgotten(_)) || other.failures > 0;
             good &= both;
             j.failures += other.failures;
@@ -372,12 +450,18 @@ fn not_listed(j: &Judge, list: &str) -> usize {
 
 fn main() {
     let o = options();
+    if let Some((turn, fault)) = o.turn {
+        return hostile::turn(turn, fault, o.seed, o.rounds);
+    }
     if o.make_answers {
         return make_answers(&o.oracle, o.seed);
     }
     let list = o.answers.as_ref().map_or(String::new(), |f| std::fs::read_to_string(f).expect("the kept answers"));
+    if o.hostile && o.times == 0 {
+        std::process::exit((hostile::run(o.seed, o.rounds) > 0) as i32);
+    }
     if o.self_test {
-        let good = self_test(&o, &list);
+        let good = self_test(&o, &list) & hostile::self_test(o.seed);
         println!("{}", if good { "self-test: every planted fault was caught" } else { "self-test FAILED" });
         std::process::exit(!good as i32);
     }
@@ -398,7 +482,10 @@ fn main() {
         done("   EOIE and IEOT of these files", other);
         let mut j = Judge::new(Plant::Nothing);
         tables(&mut j, &o.oracle, o.seed, 25_000 * o.times);
-        done(&format!("b. {} generated tables: order check and lookup (the writer is not exported yet)", 25_000 * o.times), j);
+        done(&format!("b. {} generated tables: order check and lookup", 25_000 * o.times), j);
+        let mut j = Judge::new(Plant::Nothing);
+        written(&mut j, &o.oracle, o.seed, 25_000 * o.times);
+        done(&format!("   {} generated tables, written; as many with faults", 25_000 * o.times), j);
         let mut j = Judge::new(Plant::Nothing);
         parts(&mut j, &o.oracle, o.seed, o.times);
         done("c. parts: entry bound, IEOT, EOIE, TREE bodies, seven-bit numbers", j);
@@ -410,13 +497,16 @@ fn main() {
     }
     let mut j = Judge::new(Plant::Nothing);
     let n = sizes(&mut j, o.seed, 1500 * o.times);
-    done(&format!("e. {n} reads with stores of chosen sizes, and SHA-1"), j);
+    done(&format!("e. {n} reads and writes with stores of chosen sizes, and SHA-1"), j);
     let mut j = Judge::new(Plant::Nothing);
     let n = replay(&mut j, &o.oracle, &list);
     done(&format!("f. {n} kept answers"), j);
     all.report("together");
     if let Some(f) = &o.differences {
         failures += not_listed(&all, &std::fs::read_to_string(f).expect("the list of differences"));
+    }
+    if o.hostile {
+        failures += hostile::run(o.seed, o.rounds);
     }
     println!("{}", if failures == 0 { "comparison by running: no unknown difference".to_string() } else { format!("comparison by running FAILED: {failures} failures") });
     std::process::exit((failures > 0) as i32);

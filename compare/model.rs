@@ -20,10 +20,12 @@ pub enum Row {
     D7,
     D8,
     D9,
+    D11,
+    D12,
     D15,
 }
 
-pub const ROWS: [(Row, &str); 11] = [
+pub const ROWS: [(Row, &str); 13] = [
     (Row::D1, "D1   more entries than the bytes, or EOIE's offset, leave room for"),
     (Row::D2, "D2   a V4 number above 2^64 - 1"),
     (Row::D3, "D3   field 4095: padding behind the NUL"),
@@ -34,6 +36,8 @@ pub const ROWS: [(Row, &str); 11] = [
     (Row::D7, "D7   stray bytes, or an extension cut short"),
     (Row::D8, "D8   depth 65"),
     (Row::D9, "D9   order of the nodes"),
+    (Row::D11, "D11  a node table that is not proper, by its depth"),
+    (Row::D12, "D12  a written file with a path of 4095 bytes or more, read back"),
     (Row::D15, "D15  lookup in a table that is not sorted"),
 ];
 
@@ -125,6 +129,12 @@ pub fn entries(file: &[u8], version: u32, count: usize, rooms: Rooms) -> (Run, u
     let mut w = Walk { file, rust: false, rooms, run: Run::default() };
     let next = w.entries(version, count).unwrap_or(0);
     (w.run, next)
+}
+
+/// The nodes of a TREE's body as the Rust reads it, of any depth, in file order; their names stand in the body.
+pub fn nodes(body: &[u8]) -> Option<Vec<Node>> {
+    let mut w = Walk { file: body, rust: true, rooms: ALL, run: Run::default() };
+    (w.node(0, body.len(), 1, u64::MAX) == Ok(body.len())).then_some(w.run.reading.nodes)
 }
 
 fn run(file: &[u8], rust: bool, rooms: Rooms) -> Run {

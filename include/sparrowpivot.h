@@ -1,5 +1,5 @@
 /*
- * Sparrowpivot: Git index files read, and their records looked up. The functions are proved; this file is not, and tests/c_library holds it against them.
+ * Sparrowpivot: Git index files read and written, and their records looked up. The functions are proved; this file is not, and tests/c_library holds it against them.
  *
  * Sizes and counts. A slice is passed as a pointer and a count of bytes, which may be 0; no pointer is NULL. A function reads and writes nothing but what it is
  * lent, keeps no pointer and no state, and never allocates. No two slices of a call may overlap if one of them is written.
@@ -46,7 +46,7 @@ enum sparrowpivot_refusal {
     /* 9 and 10 leave all entries, and every byte of the node store is 0. */
     SPARROWPIVOT_TOO_DEEP = 9,       /* the tree is deeper than 64 levels */
     SPARROWPIVOT_NO_NODE_ROOM = 10,  /* the tree needs one more node than there is room for */
-    /* Lookup and order check. They write no store. */
+    /* Lookup and order check, and 12 of writing too. They write no store. */
     SPARROWPIVOT_NO_STAGE = 11,      /* a stage above 3 is looked for */
     SPARROWPIVOT_PATH_OUTSIDE = 12,  /* a record's path does not lie in the path store; carries the record's index */
     SPARROWPIVOT_NOT_AFTER = 13,     /* a record is not strictly after the one before; carries its index */
@@ -54,6 +54,15 @@ enum sparrowpivot_refusal {
     SPARROWPIVOT_SHORT_OUTPUT = 14,  /* the output is shorter than needed; carries the size needed */
     SPARROWPIVOT_TOO_LARGE = 15,     /* over 2^32 - 1 records, or bytes before the place of EOIE */
     SPARROWPIVOT_NOT_PROPER = 16     /* the node table is not proper */
+};
+
+/* What is asked of sparrowpivot_write: a sum of these. Higher bits are not looked at. */
+enum sparrowpivot_write_options {
+    SPARROWPIVOT_WRITE_TREE_GIVEN = 1, /* nodes and names hold a tree */
+    SPARROWPIVOT_WRITE_TREE = 2,       /* TREE is asked for; it is written if a tree is given too */
+    SPARROWPIVOT_WRITE_EOIE = 4,       /* EOIE is asked for; it is written if there is a record, and TREE or sdir is written */
+    SPARROWPIVOT_WRITE_SPARSE = 8,     /* the index is sparse: sdir is written */
+    SPARROWPIVOT_WRITE_UNHASHED = 16   /* 20 zeros stand in the place of the hash */
 };
 
 /* ---- Reading */
@@ -78,6 +87,19 @@ uint64_t sparrowpivot_max_entries(size_t file_size, uint32_t told, size_t offset
 
 /* The SHA-1 of bytes. */
 void sparrowpivot_sha1(const uint8_t *bytes, size_t bytes_len, uint8_t out[SPARROWPIVOT_ID_SIZE]);
+
+/* ---- Writing */
+
+/*
+ * Writes the index file of a table into `out`; bytes behind it stay as they were. Version 3 if a record has flag bit 14 (EXTENDED), else 2. Records with flag bit 17
+ * (REMOVE) are left out, and their paths are not looked at. `names` holds the names of the nodes: of a table that was read, the file it was read from; `nodes` and
+ * `names` are looked at only where TREE is written. Siblings are written in byte order of name.
+ * A node table is proper if it is not empty, node 0 alone has no parent, every other parent is an earlier node, subtree counts agree with the parents, counts are -1 to
+ * 2^31 - 1, names of siblings differ, names lie in `names` and hold no NUL, and the depth is at most 64.
+ * 0: version; size. Or 12, then 16, 15 and 14: the first of them that holds. An output of 0 bytes asks for the size, by 14.
+ */
+uint32_t sparrowpivot_write(const uint8_t *records, size_t records_len, const uint8_t *paths, size_t paths_len, const uint8_t *nodes, size_t nodes_len,
+    const uint8_t *names, size_t names_len, uint32_t options, uint8_t *out, size_t out_len, uint64_t values[SPARROWPIVOT_VALUES]);
 
 /* ---- Extensions. None of these refuses: each returns 0. */
 

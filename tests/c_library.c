@@ -228,18 +228,30 @@ static void trailer(struct text *t)
     put_times(t, 0, ID);
 }
 
-/* The file most checks read: two entries and a TREE of three nodes. The header takes 12 bytes, the entries 64 and 72, so the TREE's body begins at 156. */
-static void small(struct text *t)
+/* Header and entries of the file most checks read: 12, 64 and 72 bytes. */
+static void small_entries(struct text *t)
 {
-    static struct text tree;
-    tree.n = 0;
     header(t, 2, 2);
     entry(t, 1000, 0100644, 0x11, 0, "a");
     entry(t, 2000, 0100755, 0x22, 2, "b/c");
+}
+
+/* A TREE of three nodes. */
+static void small_tree(struct text *t)
+{
+    static struct text tree;
+    tree.n = 0;
     node(&tree, "", "2 2", 0x33);
     node(&tree, "b", "1 0", 0x44);
     node(&tree, "x", "-1 0", -1);
     extension(t, "TREE", &tree);
+}
+
+/* The file most checks read: two entries and a TREE of three nodes, whose body begins at 156. */
+static void small(struct text *t)
+{
+    small_entries(t);
+    small_tree(t);
     trailer(t);
 }
 
@@ -453,6 +465,193 @@ static void test_entries(void)
     group("entries alone");
 }
 
+/* ---- Writing */
+
+/* The file that is written of the small table: what each option asks for. */
+static void small_written(struct text *t, uint32_t options)
+{
+    static struct text body;
+    size_t offset;
+    int tree = (options & SPARROWPIVOT_WRITE_TREE_GIVEN) && (options & SPARROWPIVOT_WRITE_TREE), sparse = (options & SPARROWPIVOT_WRITE_SPARSE) != 0;
+    small_entries(t);
+    offset = t->n;
+    if (tree)
+        small_tree(t);
+    if (sparse)
+        put(t, "sdir\0\0\0\0", 8);
+    if ((options & SPARROWPIVOT_WRITE_EOIE) && (tree || sparse)) {
+        struct text heads;
+        heads.n = 0;
+        if (tree)
+            put(&heads, t->b + offset, 8);
+        if (sparse)
+            put(&heads, "sdir\0\0\0\0", 8);
+        body.n = 0;
+        put32(&body, (uint32_t)offset);
+        sparrowpivot_sha1(heads.b, heads.n, body.b + 4);
+        body.n += ID;
+        extension(t, "EOIE", &body);
+    }
+    if (options & SPARROWPIVOT_WRITE_UNHASHED)
+        trailer(t);
+    else {
+        sparrowpivot_sha1(t->b, t->n, t->b + t->n);
+        t->n += ID;
+    }
+}
+
+/* What is lent to a write: two tables with paths and names. */
+struct tables {
+    struct lent records, paths, nodes, names;
+};
+
+/* The tables of a file of so many records, path bytes and nodes. */
+static struct tables tables_of(const struct text *t, size_t records, size_t paths, size_t nodes)
+{
+    struct stores s = read_into(t, records * RECORD, paths, nodes * NODE);
+    struct tables all;
+    check("read to be written", s.code, 0);
+    all.records = lend(s.records.p, s.records.n);
+    all.paths = lend(s.paths.p, s.paths.n);
+    all.nodes = lend(s.nodes.p, s.nodes.n);
+    all.names = lend(t->b, t->n);
+    end_stores("read to be written", &s);
+    return all;
+}
+
+static void end_tables(const char *what, struct tables *all)
+{
+    give_back_read(what, &all->records);
+    give_back_read(what, &all->paths);
+    give_back_read(what, &all->nodes);
+    give_back_read(what, &all->names);
+}
+
+/* Writes into so many bytes, and expects this file, or this refusal and an untouched output. */
+static void write_into(const char *what, const struct tables *all, uint32_t options, size_t room, const struct text *file, uint32_t version, uint32_t code,
+    uint64_t carried)
+{
+    struct lent out = lend(NULL, room);
+    struct eight e = eight();
+    check(what, sparrowpivot_write(all->records.p, all->records.n, all->paths.p, all->paths.n, all->nodes.p, all->nodes.n, all->names.p, all->names.n, options,
+        out.p, out.n, e.v), code);
+    if (code) {
+        first(what, &e, carried);
+        check(what, changed(&out, 0), 0);
+    } else {
+        values(what, &e, version, file->n, 0, 0, 0, 0, 0, 0);
+        check(what, memcmp(out.p, file->b, file->n) != 0, 0);
+        check(what, changed(&out, file->n), 0);
+    }
+    give_back(what, &out);
+}
+
+static void test_write(void)
+{
+    static struct text t, wanted, tree;
+    struct tables all;
+    uint32_t options;
+
+    small(&t);
+    all = tables_of(&t, 2, 4, 3);
+    for (options = 0; options < 32; options++) {
+        small_written(&wanted, options);
+        write_into("options", &all, options, wanted.n, &wanted, 2, 0, 0);
+        write_into("options", &all, options | 0xffffffe0, wanted.n, &wanted, 2, 0, 0);
+    }
+    group("a table written, every option");
+
+    options = SPARROWPIVOT_WRITE_TREE_GIVEN | SPARROWPIVOT_WRITE_TREE | SPARROWPIVOT_WRITE_EOIE;
+    small_written(&wanted, options);
+    write_into("larger", &all, options, wanted.n + 1, &wanted, 2, 0, 0);
+    write_into("larger", &all, options, wanted.n + 5000, &wanted, 2, 0, 0);
+    write_into("refusal 14", &all, options, wanted.n - 1, NULL, 0, SPARROWPIVOT_SHORT_OUTPUT, wanted.n);
+    write_into("refusal 14", &all, options, 0, NULL, 0, SPARROWPIVOT_SHORT_OUTPUT, wanted.n);
+    group("a larger output, and refusal 14");
+
+    all.paths.n--;
+    write_into("refusal 12", &all, options, wanted.n, NULL, 0, SPARROWPIVOT_PATH_OUTSIDE, 1);
+    all.paths.n = 0;
+    all.nodes.n = 0;
+    write_into("refusal 12", &all, options, 0, NULL, 0, SPARROWPIVOT_PATH_OUTSIDE, 0);
+    group("refusal 12, before any other");
+
+    all.paths.n = 4;
+    write_into("refusal 16", &all, options, 0, NULL, 0, SPARROWPIVOT_NOT_PROPER, 0);
+    all.nodes.n = 2 * NODE;
+    write_into("refusal 16", &all, options, wanted.n, NULL, 0, SPARROWPIVOT_NOT_PROPER, 0);
+    all.nodes.n = 3 * NODE;
+    all.names.n = 207;
+    write_into("refusal 16", &all, options, wanted.n, NULL, 0, SPARROWPIVOT_NOT_PROPER, 0);
+    /* a tree that is not written is not looked at */
+    small_written(&wanted, SPARROWPIVOT_WRITE_TREE);
+    write_into("no tree", &all, SPARROWPIVOT_WRITE_TREE, wanted.n, &wanted, 2, 0, 0);
+    write_into("no tree", &all, SPARROWPIVOT_WRITE_TREE_GIVEN, wanted.n, &wanted, 2, 0, 0);
+    all.names.n = t.n;
+    end_tables("write", &all);
+    group("refusal 16, if TREE is to be written");
+
+    /* the last node's name alone is moved to the front: it is written where its name belongs */
+    small_entries(&t);
+    tree.n = 0;
+    node(&tree, "", "2 2", 0x33);
+    node(&tree, "x", "-1 0", -1);
+    node(&tree, "b", "1 0", 0x44);
+    extension(&t, "TREE", &tree);
+    trailer(&t);
+    all = tables_of(&t, 2, 4, 3);
+    small_written(&wanted, options);
+    write_into("siblings", &all, options, wanted.n, &wanted, 2, 0, 0);
+    end_tables("siblings", &all);
+    group("siblings in byte order of name");
+
+    header(&t, 3, 1);
+    put_times(&t, 7, 24);
+    put32(&t, 0100644);
+    put_times(&t, 7, 32);
+    put(&t, "\x40\x01\x20\0a\0\0\0\0\0\0\0", 12);
+    sparrowpivot_sha1(t.b, t.n, t.b + t.n);
+    t.n += ID;
+    all = tables_of(&t, 1, 1, 0);
+    write_into("extended", &all, 0, t.n, &t, 3, 0, 0);
+    end_tables("extended", &all);
+    header(&t, 2, 0);
+    sparrowpivot_sha1(t.b, t.n, t.b + t.n);
+    t.n += ID;
+    all = tables_of(&t, 0, 0, 0);
+    write_into("no record", &all, SPARROWPIVOT_WRITE_EOIE, t.n, &t, 2, 0, 0);
+    end_tables("no record", &all);
+    group("version 3, and an empty table");
+}
+
+/* 4096 times a path of 2^20 bytes is more than a file may hold; one time less is not. */
+static void test_too_large(void)
+{
+    const size_t path = 1 << 20, n = 4096, size = 12 + 62 + path + 2 + ID;
+    struct lent file = lend(NULL, size), one = lend(NULL, RECORD), paths = lend(NULL, path), records = lend(NULL, n * RECORD), out = lend(NULL, 0);
+    struct eight e = eight();
+    size_t i;
+    memset(file.p, 0, size);
+    memcpy(file.p, "DIRC\0\0\0\2\0\0\0\1", 12);
+    memcpy(file.p + 12 + 60, "\x0f\xff", 2);
+    memset(file.p + 12 + 62, 'a', path);
+    check("long path", sparrowpivot_read(file.p, size, one.p, one.n, paths.p, paths.n, out.p, 0, e.v), 0);
+    for (i = 0; i < n; i++)
+        memcpy(records.p + i * RECORD, one.p, RECORD);
+    e = eight();
+    check("refusal 15", sparrowpivot_write(records.p, records.n, paths.p, paths.n, out.p, 0, out.p, 0, 0, out.p, 0, e.v), SPARROWPIVOT_TOO_LARGE);
+    first("refusal 15", &e, 0);
+    e = eight();
+    check("refusal 14", sparrowpivot_write(records.p, records.n - RECORD, paths.p, paths.n, out.p, 0, out.p, 0, 0, out.p, 0, e.v), SPARROWPIVOT_SHORT_OUTPUT);
+    first("refusal 14", &e, 12 + (uint64_t)(n - 1) * (62 + path + 2) + ID);
+    give_back("refusal 15", &file);
+    give_back("refusal 15", &one);
+    give_back("refusal 15", &paths);
+    give_back("refusal 15", &records);
+    give_back("refusal 15", &out);
+    group("refusal 15");
+}
+
 /* ---- Extensions, the bound, SHA-1 */
 
 static void test_extensions(void)
@@ -655,6 +854,8 @@ static void every(void)
     test_read();
     test_refusals();
     test_entries();
+    test_write();
+    test_too_large();
     test_extensions();
     test_sha1();
     test_records();

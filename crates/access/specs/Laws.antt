@@ -1,5 +1,5 @@
 -- Laws of the definitions of access in the directions that the code's proofs ask: turns of the loops, and each answer by its tests. Assumes nothing.
-use mathlib.Core.Path.{_≡_, refl, sym, ap, _∙_}
+use mathlib.Core.Path.{_≡_, refl, sym, ap, subst, _∙_}
 use mathlib.Core.Bool.{Bool, true, false}
 use mathlib.Core.List.{List, [], _∷_}
 use mathlib.Core.Logic.{_⊎_, ⊎-elim}
@@ -18,9 +18,11 @@ use Rattle.laws.specs.Order.{below, compared, compared-lt, compared-gt, compare
 use Rattle.wire.specs.BigEndian.{beAt, be-small}
 use Rattle.wire.specs.Laws.{be-join}
 use Rattle.entry.specs.Record.{recordsIn, stageAt, liesInside, pathAt}
-use Rattle.access.specs.Order.{orderOf, stageOrder, thenBy, agreeing, EightsAgree}
+use Rattle.access.specs.Order.{orderOf, stageOrder, thenBy, agreeing, Passed, EightsOf, differ-at, agree-to}
 use Rattle.access.specs.Verify.{isLess, followsAt, verifyFrom, verifyAt}
 use Rattle.access.specs.Lookup.{probeAt, turn, halve, searchAt, lookupAt}
+use Rattle.access.specs.declared.order.Eights.{Eights}
+use Rattle.access.specs.declared.order.Eights.the-variants.{DifferAt, AgreeTo}
 use Rattle.access.specs.declared.order.Order.{Order}
 use Rattle.access.specs.declared.order.Order.the-variants.{Less, Equal, Greater}
 use Rattle.access.specs.declared.verify.Verified.{Verified}
@@ -84,36 +86,62 @@ compare-run (suc w) a b k ha hb e =
     let ih = compare-run w a b (k + 1) (omega arith) (omega arith) (λ m l. let p : k + 1 + m ≡ k + (m + 1) = omega arith in rw p (e (m + 1) (omega arith))) in
     rw (q, drop-next a k (omega arith), drop-next b k (omega arith), compared-eq (getD a k 0) (getD b k 0) (drop (k + 1) a) (drop (k + 1) b) here) ih
 
--- eight bytes passed: what is kept of both
-pub record EightsPassed (a b : List ℕ) (k : ℕ) : Type 0 where
-  pub agrees : k + agreeing (drop k a) (drop k b) ≡ agreeing a b
-  pub decides : compared (drop k a) (drop k b) ≡ compared a b
-
-pub eights-start : (a b : List ℕ) → EightsPassed a b 0
+pub eights-start : (a b : List ℕ) → Passed a b (0 * 8)
 eights-start a b = record { agrees = omega arith; decides = refl }
 
-module _ (a b : List ℕ) (k : ℕ) (inv : EightsPassed a b k) (ha : k ≤ length a) (hb : k ≤ length b) where
-  abbrev Differ : Type 0
-  Differ = k + 8 ≤ length a → k + 8 ≤ length b → beAt 8 a k ≡ beAt 8 b k → ⊥
+-- n eights are in both; j of them have agreed
+module _ (a b : List ℕ) (n j : ℕ) (passed : Passed a b (j * 8)) (la : n * 8 ≤ length a) (lb : n * 8 ≤ length b) where
+  pub eights-done : n ≤ j → j ≤ n → EightsOf a b (AgreeTo (n * 8))
+  eights-done h l = let e : j ≡ n = omega arith in agree-to (subst (λ (i : ℕ). Passed a b (i * 8)) e passed)
 
-  ended : Differ → EightsAgree a b k
-  ended d = record { inside = (ha, hb); agrees = inv .agrees; decides = inv .decides; differ = d }
+  module _ (h : j < n) (x y : ℕ) (ex : x ≡ beAt 8 a (j * 8)) (ey : y ≡ beAt 8 b (j * 8)) where
+    pub eights-differ : (x ≡ y → ⊥) → EightsOf a b (DifferAt (j * 8))
+    eights-differ ne = differ-at passed (omega arith) (omega arith) (λ e. ne (ex ∙ e ∙ sym ey))
 
-  pub eights-first : length a - k < 8 → EightsAgree a b k
-  eights-first h = ended (λ p q e. omega arith)
+    pub eights-next : x ≡ y → ((i : ℕ) → getD a i 0 < 256) → ((i : ℕ) → getD b i 0 < 256) → Passed a b ((j + 1) * 8)
+    eights-next e sa sb =
+        let next : j * 8 + 8 ≡ (j + 1) * 8 = omega arith in
+        let same-bytes = bytes-same 8 a b (j * 8) sa sb (sym ex ∙ e ∙ ey) in
+        let run : 8 + agreeing (drop (j * 8 + 8) a) (drop (j * 8 + 8) b) ≡ agreeing (drop (j * 8) a) (drop (j * 8) b) = agree-run 8 a b (j * 8) (omega arith) (omega arith) same-bytes in
+        let whole : Passed a b (j * 8 + 8) = record { agrees = omega (arith, passed .agrees); decides = compare-run 8 a b (j * 8) (omega arith) (omega arith) same-bytes ∙ passed .decides } in
+        subst (Passed a b) next whole
 
-  pub eights-second : length b - k < 8 → EightsAgree a b k
-  eights-second h = ended (λ p q e. omega arith)
+module _ (a b : List ℕ) (e : Eights) (k : ℕ) (eights : EightsOf a b e) where
+  passed-differ : e ≡ DifferAt k → Passed a b k
+  passed-differ q = by (subst (EightsOf a b) q eights)
+    where
+      by : EightsOf a b (DifferAt k) → Passed a b k
+      by (differ-at p la lb d) = p
 
-  module _ (x y : ℕ) (ex : x ≡ beAt 8 a k) (ey : y ≡ beAt 8 b k) where
-    pub eights-differ : (x ≡ y → ⊥) → EightsAgree a b k
-    eights-differ ne = ended (λ p q e. ne (ex ∙ e ∙ sym ey))
+  passed-agree : e ≡ AgreeTo k → Passed a b k
+  passed-agree q = by (subst (EightsOf a b) q eights)
+    where
+      by : EightsOf a b (AgreeTo k) → Passed a b k
+      by (agree-to p) = p
 
-    pub eights-next : x ≡ y → 8 ≤ length a - k → 8 ≤ length b - k → ((j : ℕ) → getD a j 0 < 256) → ((j : ℕ) → getD b j 0 < 256) → EightsPassed a b (k + 8)
-    eights-next e la lb sa sb =
-        let same-bytes = bytes-same 8 a b k sa sb (sym ex ∙ e ∙ ey) in
-        let run : 8 + agreeing (drop (k + 8) a) (drop (k + 8) b) ≡ agreeing (drop k a) (drop k b) = agree-run 8 a b k (omega arith) (omega arith) same-bytes in
-        record { agrees = omega (arith, inv .agrees); decides = compare-run 8 a b k (omega arith) (omega arith) same-bytes ∙ inv .decides }
+  pub room-first : e ≡ DifferAt k → k + 8 ≤ length a
+  room-first q = by (subst (EightsOf a b) q eights)
+    where
+      by : EightsOf a b (DifferAt k) → k + 8 ≤ length a
+      by (differ-at p la lb d) = la
+
+  pub room-second : e ≡ DifferAt k → k + 8 ≤ length b
+  room-second q = by (subst (EightsOf a b) q eights)
+    where
+      by : EightsOf a b (DifferAt k) → k + 8 ≤ length b
+      by (differ-at p la lb d) = lb
+
+  eight-apart : e ≡ DifferAt k → beAt 8 a k ≡ beAt 8 b k → ⊥
+  eight-apart q = by (subst (EightsOf a b) q eights)
+    where
+      by : EightsOf a b (DifferAt k) → beAt 8 a k ≡ beAt 8 b k → ⊥
+      by (differ-at p la lb d) = d
+
+  pub agree-differ : e ≡ DifferAt k → (r : ℕ) → r ≡ k + agreeing (drop k a) (drop k b) → r ≡ agreeing a b
+  agree-differ q r z = z ∙ passed-differ q .agrees
+
+  pub agree-rest : e ≡ AgreeTo k → (r : ℕ) → r ≡ k + agreeing (drop k a) (drop k b) → r ≡ agreeing a b
+  agree-rest q r z = z ∙ passed-agree q .agrees
 
 -- bytes that differ stand as the numbers that they spell, which are less than 256 ^ w apart from their first byte on
 first-byte : (w : ℕ) (a : List ℕ) (k : ℕ) → beAt (suc w) a k ≡ getD a k 0 * 256 ^ w + beAt w a (k + 1)
@@ -225,26 +253,30 @@ module _ (a b : List ℕ) (from k : ℕ) (e : k ≡ from + agreeing (drop from a
       byte-b : getD rest-b (agreeing rest-a rest-b) 0 ≡ getD b k 0
       byte-b = getD-drop from b (agreeing rest-a rest-b) 0 ∙ ap (λ (n : ℕ). getD b n 0) (sym e)
 
-      pub from-less : getD a k 0 < getD b k 0 → Less ≡ orderOf (compared rest-a rest-b)
-      from-less m = compare-less rest-a rest-b (agreeing rest-a rest-b) refl (omega (arith, length-drop from a)) (omega (arith, length-drop from b)) (omega (arith, byte-a, byte-b))
+      module _ (x y : ℕ) (ex : x ≡ getD a k 0) (ey : y ≡ getD b k 0) where
+        pub from-less : x < y → Less ≡ orderOf (compared rest-a rest-b)
+        from-less m = compare-less rest-a rest-b (agreeing rest-a rest-b) refl (omega (arith, length-drop from a)) (omega (arith, length-drop from b)) (omega (arith, byte-a, byte-b))
 
-      pub from-greater : getD b k 0 ≤ getD a k 0 → Greater ≡ orderOf (compared rest-a rest-b)
-      from-greater m = compare-greater rest-a rest-b (agreeing rest-a rest-b) refl (omega (arith, length-drop from a)) (omega (arith, length-drop from b)) (omega (arith, byte-a, byte-b))
+        pub from-greater : y ≤ x → Greater ≡ orderOf (compared rest-a rest-b)
+        from-greater m = compare-greater rest-a rest-b (agreeing rest-a rest-b) refl (omega (arith, length-drop from a)) (omega (arith, length-drop from b)) (omega (arith, byte-a, byte-b))
 
 -- the whole, from what stands behind k
-module _ (a b : List ℕ) (k : ℕ) (passed : EightsAgree a b k) where
-  pub compare-rest : (r : Order) → r ≡ orderOf (compared (drop k a) (drop k b)) → r ≡ orderOf (compared a b)
-  compare-rest r e = e ∙ ap orderOf (passed .decides)
+module _ (a b : List ℕ) (e : Eights) (k : ℕ) (eights : EightsOf a b e) where
+  pub compare-rest : e ≡ AgreeTo k → (r : Order) → r ≡ orderOf (compared (drop k a) (drop k b)) → r ≡ orderOf (compared a b)
+  compare-rest q r z = z ∙ ap orderOf (passed-agree a b e k eights q .decides)
 
-  module _ (la : 8 ≤ length a - k) (lb : 8 ≤ length b - k) (x y : ℕ) (ex : x ≡ beAt 8 a k) (ey : y ≡ beAt 8 b k) (sa : (j : ℕ) → getD a j 0 < 256) (sb : (j : ℕ) → getD b j 0 < 256) where
+  module _ (q : e ≡ DifferAt k) (x y : ℕ) (ex : x ≡ beAt 8 a k) (ey : y ≡ beAt 8 b k) (sa : (j : ℕ) → getD a j 0 < 256) (sb : (j : ℕ) → getD b j 0 < 256) where
+    whole : compared a b ≡ compared (drop k a) (drop k b)
+    whole = sym (passed-differ a b e k eights q .decides)
+
     pub numbers-less : x < y → Less ≡ orderOf (compared a b)
-    numbers-less h = sym (ap orderOf (sym (passed .decides) ∙ by-numbers 8 a b k sa sb (omega arith) (omega arith) (omega arith)))
+    numbers-less h = sym (ap orderOf (whole ∙ by-numbers 8 a b k sa sb (room-first a b e k eights q) (room-second a b e k eights q) (omega arith)))
 
     pub numbers-greater : y ≤ x → Greater ≡ orderOf (compared a b)
     numbers-greater h =
-        let ne : x ≡ y → ⊥ = λ q. passed .differ (omega arith) (omega arith) (sym ex ∙ q ∙ ey) in
+        let ne : x ≡ y → ⊥ = λ z. eight-apart a b e k eights q (sym ex ∙ z ∙ ey) in
         let m : y < x = not-same x y h ne in
-        sym (ap orderOf (sym (passed .decides) ∙ compared-flip (drop k b) (drop k a) ∙ ap flip (by-numbers 8 b a k sb sa (omega arith) (omega arith) (omega arith))))
+        sym (ap orderOf (whole ∙ compared-flip (drop k b) (drop k a) ∙ ap flip (by-numbers 8 b a k sb sa (room-second a b e k eights q) (room-first a b e k eights q) (omega arith))))
 
 -- ---- then the stage
 
@@ -363,9 +395,9 @@ pub found-up : (p : ℕ → Probe) (n low high k m : ℕ) (r : Found) → halve 
     → halve p (n - (k + 1)) low m (k + 1) ≡ r
 found-up p n low high k m r inv w l a e q o y z = rw q (found-high p n low high k r inv w l a (rw q at e) o y z)
 
-pub search-start : (rs ps key : List ℕ) (stage n : ℕ) → n ≡ recordsIn rs → halve (probeAt rs ps key stage) (n - 0) 0 n 0 ≡ searchAt rs ps key stage
+pub search-start : (rs ps key : List ℕ) (stage n high : ℕ) → n ≡ recordsIn rs → high ≡ n → halve (probeAt rs ps key stage) (n - 0) 0 high 0 ≡ searchAt rs ps key stage
 unfolding searchAt
-search-start rs ps key stage n e = rw (sub-zero n, e)
+search-start rs ps key stage n high e h = rw (h, sub-zero n, e)
 
 module _ (rs ps key : List ℕ) (stage : ℕ) where
   pub lookup-far : 3 < stage → NoStage ≡ lookupAt rs ps key stage
@@ -376,7 +408,7 @@ module _ (rs ps key : List ℕ) (stage : ℕ) where
   unfolding lookupAt
   lookup-near r e h = e ∙ sym (rw (le-ltb 3 stage (omega arith)))
 
-pub ruleset orders = (agree-first, agree-second, agree-part, agree-more, eights-start, eights-first, eights-second, eights-differ, from-equal, from-prefix, from-longer, from-less, from-greater, compare-rest, stage-below, stage-beyond, stage-same, then-less, then-greater, then-second)
+pub ruleset orders = (agree-first, agree-second, agree-part, agree-more, eights-start, eights-done, eights-differ, room-first, room-second, agree-differ, agree-rest, from-equal, from-prefix, from-longer, from-less, from-greater, compare-rest, stage-below, stage-beyond, stage-same, then-less, then-greater, then-second)
 
 pub ruleset checks = (follows-first, follows-less, follows-equal, follows-greater, verify-start, verify-done, verify-outside, verify-not-after, verify-next)
 

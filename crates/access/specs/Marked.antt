@@ -1,4 +1,5 @@
--- A marked page of 01 that computes: "a" stage 0, "a" stage 2, "a.b" stage 0 is sorted; and what lookup says in that table. Assumes nothing.
+-- The table of 01's marked page on order, "a" stage 0, "a" stage 2, "a.b" stage 0, and what lookup says in it, computed. That the check calls it sorted stands with the other
+-- marked pages, in `claims`. Assumes nothing.
 use mathlib.Core.Path.{_≡_, refl}
 use mathlib.Core.List.{List, [], _∷_, _++_}
 use Prim.Native.Nat.{ℕ, _*_}
@@ -10,7 +11,6 @@ use Rattle.entry.specs.Record.{recordOf, frontOf, restOf, fieldAt, liesInside, 
 use Rattle.access.specs.Verify.{followsAt, verifyFrom, verifyAt}
 use Rattle.access.specs.Lookup.{probeAt, halve, searchAt, lookupAt}
 use Rattle.access.specs.Sorted.{StrictlySorted, sorted-said}
-use Rattle.access.specs.declared.verify.Verified.the-variants.{Sorted}
 use Rattle.access.specs.declared.Found.the-variants.{At, Absent}
 
 -- a record of zeros but for its stage and its path's place
@@ -24,12 +24,9 @@ table = row 0 0 1 ++ row 2 1 2 ++ row 0 2 5
 unfoldable pub paths : List ℕ
 paths = 97 ∷ 97 ∷ 97 ∷ 46 ∷ 98 ∷ []
 
-pub page : verifyAt table paths ≡ Sorted
-unfolding table row paths verifyAt verifyFrom followsAt liesInside pathAt fieldAt recordOf frontOf restOf wire.beAt wire.bytesOf mode.keepMode laws.compared
-page = refl
-
 pub page-sorted : StrictlySorted table paths
-page-sorted = sorted-said table paths page
+unfolding table row paths verifyAt verifyFrom followsAt liesInside pathAt fieldAt recordOf frontOf restOf wire.beAt wire.bytesOf mode.keepMode laws.compared
+page-sorted = sorted-said table paths refl
 
 pub page-found : lookupAt table paths (97 ∷ []) 2 ≡ At 1 1
 unfolding table row paths lookupAt searchAt halve probeAt liesInside pathAt fieldAt recordOf frontOf restOf wire.beAt wire.bytesOf mode.keepMode laws.compared

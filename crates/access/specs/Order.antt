@@ -12,6 +12,8 @@ use Rattle.laws.specs.Pick.{pick}
 use Rattle.laws.specs.Tests.{tri}
 use Rattle.laws.specs.Order.{Before, irreflexive, transitive, Comparison, below, equal, beyond, compared, Compares, is-below, is-equal, is-beyond, compares, before-below, before-beyond, compared-same}
 use Rattle.wire.specs.BigEndian.{beAt}
+use Rattle.access.specs.declared.order.Eights.{Eights}
+use Rattle.access.specs.declared.order.Eights.the-variants.{DifferAt, AgreeTo}
 use Rattle.access.specs.declared.order.Order.{Order}
 use Rattle.access.specs.declared.order.Order.the-variants.{Less, Equal, Greater}
 
@@ -40,12 +42,15 @@ agreeing [] b = 0
 agreeing (x ∷ xs) [] = 0
 agreeing (x ∷ xs) (y ∷ ys) = pick (eqb x y) (suc (agreeing xs ys)) 0
 
--- k leading bytes agree, so that what agrees is k and what agrees behind k; the eight behind k differ, where both have so many
-pub record EightsAgree (a b : List ℕ) (k : ℕ) : Type 0 where
-  pub inside : (k ≤ length a) × (k ≤ length b)
+-- k leading bytes agree: what agrees is k and what agrees behind k, and what stands behind k decides
+pub record Passed (a b : List ℕ) (k : ℕ) : Type 0 where
   pub agrees : k + agreeing (drop k a) (drop k b) ≡ agreeing a b
   pub decides : compared (drop k a) (drop k b) ≡ compared a b
-  pub differ : k + 8 ≤ length a → k + 8 ≤ length b → beAt 8 a k ≡ beAt 8 b k → ⊥
+
+-- how many agree in eights: up to eight that differ, or to where one of the two has no eight left
+pub data EightsOf (a b : List ℕ) : Eights → Type 0 where
+  differ-at : {k : ℕ} → Passed a b k → k + 8 ≤ length a → k + 8 ≤ length b → (beAt 8 a k ≡ beAt 8 b k → ⊥) → EightsOf a b (DifferAt k)
+  agree-to : {k : ℕ} → Passed a b k → EightsOf a b (AgreeTo k)
 
 -- ---- the relation
 

@@ -1,9 +1,10 @@
 // The order of records: by the bytes of the path, unsigned, a prefix first; then by stage.
 ghost use mathlib.Core.Path.{_≡_};
-ghost use Prim.Native.Nat.{_+_};
-ghost use lib.ListN.{drop};
+ghost use Prim.Native.Nat.{_+_, _≤_};
+ghost use lib.ListN.{length, drop};
 ghost use Rattle.laws.specs.Order.{compared};
-ghost use Rattle.access.specs.Order.{orderOf, stageOrder, thenBy, agreeing, EightsAgree};
+ghost use Rattle.wire.specs.BigEndian.{beAt};
+ghost use Rattle.access.specs.Order.{orderOf, stageOrder, thenBy, agreeing, EightsOf};
 
 pub enum Order {
     Less,
@@ -28,35 +29,69 @@ fn agree_from(a: &[u8], b: &[u8], from: usize) -> usize
     k
 }
 
-// How many leading bytes agree, counted in eights: where the next eight differ, or fewer than eight are left of one of the two. Paths of one index mostly share a
-// long beginning, so this is where a comparison spends its time.
-fn agree_eights(a: &[u8], b: &[u8]) -> usize
-    ensures { λ r. ⌜ EightsAgree (now (a .entry)) (now (b .entry)) r ⌝ }
+// How many bytes both have.
+fn shorter(a: &[u8], b: &[u8]) -> usize
+    ensures { λ r. ⌜ (r ≤ length (now (a .entry))) × (r ≤ length (now (b .entry))) ⌝ }
 {
-    let mut k: usize = 0;
-    while 8 <= a.len() - k {
-        if b.len() - k < 8 {
-            return k;
-        }
-        let x = wire::be64(a, k);
-        let y = wire::be64(b, k);
-        if x != y {
-            return k;
-        }
-        k += 8;
+    if a.len() < b.len() {
+        return a.len();
     }
-    k
+    b.len()
+}
+
+// The eight bytes at `at` as a number, the upper first.
+fn eight_at(s: &[u8], at: usize) -> u64
+    requires { ⌜ at + 8 ≤ length (now s) ⌝ }
+    ensures { λ r. ⌜ r ≡ beAt 8 (now (s .entry)) at ⌝ }
+{
+    entry::eight::number_of(
+        s[at],
+        s[at + 1],
+        s[at + 2],
+        s[at + 3],
+        s[at + 4],
+        s[at + 5],
+        s[at + 6],
+        s[at + 7],
+    )
+}
+
+// How many leading bytes agree, counted in eights: up to eight that differ, or as far as both have eights.
+enum Eights {
+    DifferAt(usize),
+    AgreeTo(usize),
+}
+
+// Paths of one index mostly share a long beginning, so this is where a comparison spends its time.
+fn pass_eights(a: &[u8], b: &[u8]) -> Eights
+    ensures { λ r. ⌜ EightsOf (now (a .entry)) (now (b .entry)) r ⌝ }
+{
+    let n = shorter(a, b) / 8;
+    let mut j: usize = 0;
+    while j < n {
+        let at = j * 8;
+        let x = eight_at(a, at);
+        let y = eight_at(b, at);
+        if x != y {
+            return Eights::DifferAt(at);
+        }
+        j += 1;
+    }
+    Eights::AgreeTo(n * 8)
 }
 
 // How many leading bytes agree.
 pub fn agree(a: &[u8], b: &[u8]) -> usize
     ensures { λ r. ⌜ r ≡ agreeing (now (a .entry)) (now (b .entry)) ⌝ }
 {
-    let k = agree_eights(a, b);
-    agree_from(a, b, k)
+    let passed = pass_eights(a, b);
+    match passed {
+        Eights::DifferAt(k) => agree_from(a, b, k),
+        Eights::AgreeTo(k) => agree_from(a, b, k),
+    }
 }
 
-// How path a stands to path b where fewer than eight bytes behind k are left of one of the two: decided by the first byte in which they part.
+// How what stands behind `from` in path a stands to that in path b: decided by the first byte in which they part.
 fn compare_from(a: &[u8], b: &[u8], from: usize) -> Order
     ensures { λ r. ⌜ r ≡ orderOf (compared (drop from (now (a .entry))) (drop from (now (b .entry)))) ⌝ }
 {
@@ -82,19 +117,18 @@ fn compare_from(a: &[u8], b: &[u8], from: usize) -> Order
 pub fn compare(a: &[u8], b: &[u8]) -> Order
     ensures { λ r. ⌜ r ≡ orderOf (compared (now (a .entry)) (now (b .entry))) ⌝ }
 {
-    let k = agree_eights(a, b);
-    if a.len() - k < 8 {
-        return compare_from(a, b, k);
+    let passed = pass_eights(a, b);
+    match passed {
+        Eights::DifferAt(k) => {
+            let ahead = eight_at(a, k);
+            let behind = eight_at(b, k);
+            if ahead < behind {
+                return Order::Less;
+            }
+            Order::Greater
+        }
+        Eights::AgreeTo(k) => compare_from(a, b, k),
     }
-    if b.len() - k < 8 {
-        return compare_from(a, b, k);
-    }
-    let ahead = wire::be64(a, k);
-    let behind = wire::be64(b, k);
-    if ahead < behind {
-        return Order::Less;
-    }
-    Order::Greater
 }
 
 pub fn compare_stages(a: u32, b: u32) -> Order

@@ -1,7 +1,8 @@
 // Replays what the Rust answers for the order check and for lookup. `stdin` is a list of cases, each with its length in two bytes before it: a letter, `v` for the
-// check and `l` for a lookup; the number of records; each record's stage, its path's length and its path; and for a lookup the stage and the path that are looked
-// for. tests/access_replay made the list and the answers of `stdout`.
-ghost use Prim.Native.Nat.{_*_, _≤_, _<_};
+// check, `l` for a lookup and `t` for the check and any number of lookups in one table; the number of records; each record's stage, its path's length and its path;
+// and then, for `l`, the stage and the path that are looked for; for `t`, each stage, path's length and path. tests/access_replay made the list and the answers of
+// `stdout`.
+ghost use Prim.Native.Nat.{_*_, _<_};
 ghost use mathlib.Core.Path.{_≡_};
 ghost use lib.ListN.{length};
 use access::Found;
@@ -100,6 +101,25 @@ fn show_verified(v: Verified) {
     io::write_all(STDOUT_FILENO, b"\n");
 }
 
+// The answer to each lookup of a case that stands from `first` on.
+fn ask_each(case: &[u8], records: &[u8], first: usize) {
+    let mut at = first;
+    while at < case.len() {
+        if case.len() - at < 2 {
+            return;
+        }
+        let stage = byte_at(case, at) as u32;
+        let size = wide(byte_at(case, at + 1));
+        let from = at + 2;
+        if case.len() - from < size {
+            return;
+        }
+        let to = from + size;
+        show_found(access::lookup(records, case, &case[from..to], stage));
+        at = to;
+    }
+}
+
 // The answer to a case whose n records, which end at `at`, are in the table.
 fn ask(case: &[u8], records: &[u8], n: usize, at: usize)
     requires { ⌜ n < 256 ⌝ }
@@ -111,6 +131,11 @@ fn ask(case: &[u8], records: &[u8], n: usize, at: usize)
     let lent = &records[..size];
     if byte_at(case, 0) == b'v' {
         show_verified(access::verify::verify_entries(lent, case));
+        return;
+    }
+    if byte_at(case, 0) == b't' {
+        show_verified(access::verify::verify_entries(lent, case));
+        ask_each(case, lent, at);
         return;
     }
     let stage = byte_at(case, at) as u32;

@@ -1,7 +1,7 @@
 -- DEMAND 3, on whole files. With a good header, a good trailer, room for the entries before the first not spelled and a walk of the last TREE that stays within the depth limit and the nodes
 -- lent: the reader accepts a file exactly if the grammar spells it; answer and stores are the rendering of the one meaning; and each refusal is given exactly when. Assumes that the
 -- file is bytes and that no slice has 2^64 bytes or more, the premise `Slices`.
-use Prim.Native.Nat.{ℕ, suc, _+_, _≤_, _<_}
+use Prim.Native.Nat.{ℕ, _+_, _≤_, _<_}
 use mathlib.Core.Path.{_≡_, refl, sym, ap, _∙_, subst}
 use mathlib.Core.Bool.{Bool, true, false}
 use mathlib.Core.List.{List, _++_}
@@ -9,25 +9,25 @@ use mathlib.Core.Logic.{_↔_}
 use mathlib.Core.Option.{Option, none, some}
 use native.Mathlib.Omega.{arith}
 use lib.ListN.{length, take}
-use Rattle.laws.specs.Read.{Begins}
+use Rattle.format.specs.Format.{depthLimit, idSize}
 use Rattle.file.specs.Read.{Outcome, outcome, readFile}
 use Rattle.file.specs.declared.Answer.{Answer}
 use Rattle.file.specs.declared.Answer.the-variants as answer
 use Rattle.grammar.specs.Number.{bigEndian}
 use Rattle.grammar.specs.Entry.{Meaning, start, Entries}
 use Rattle.grammar.specs.Extension.{Ext, TREE, Extensions, NoneSigned, LastSigned}
-use Rattle.grammar.specs.Tree.{Tree, nodes, depth, Node}
+use Rattle.grammar.specs.Tree.{Tree, nodes}
 use Rattle.grammar.specs.File.{Index, DIRC, headerLength, Supported, Sparse, Tells, CacheTree, spelled, malformed, absent, File, versionOf, countOf, space, GoodHeader}
 use Rattle.grammar.specs.Space.{Spells, spells, spelled-in-space, space-spelled}
 use Rattle.grammar.specs.Fault.{stray, refused, Faulty}
 use Rattle.grammar.specs.Reach.{depth-within, nodes-within}
 use Rattle.grammar.specs.Unique.{one-meaning}
 use Rattle.claims_entries.specs.Rendering.{recordsBytes, pathsBytes}
-use Rattle.claims_entries.specs.Said.{filled, Fits, Lacks, StopsAt, RoomFor, LacksRoomAt}
+use Rattle.claims_entries.specs.Said.{filled, StopsAt, RoomFor, LacksRoomAt}
 use Rattle.claims_tree.specs.Rendering.{treeBytes}
 use Rattle.claims_tree.specs.Said.{zeroed, lent, GoesTooDeep, UsesUp, SpellsTree, KeepsWithinDepth, HasRoom}
-use Rattle.claims.specs.Premises.{idLength, depthLimit, Slices, GoodTrailer}
-use Rattle.claims.specs.Said.{Opened, holding, readAs, AllEntries, WithTree, SaysFile, says-short, says-no-signature, says-other-version, says-bad-trailer, says-not-spelled, says-no-entry-room, says-not-filled, says-mandatory, says-no-TREE, says-tree, says-malformed, says-too-deep, says-no-node-room}
+use Rattle.claims.specs.Premises.{Slices, GoodTrailer}
+use Rattle.claims.specs.Said.{Opened, holding, AllEntries, WithTree, SaysFile, says-short, says-no-signature, says-other-version, says-bad-trailer, says-not-spelled, says-no-entry-room, says-not-filled, says-mandatory, says-no-TREE, says-tree, says-malformed, says-too-deep, says-no-node-room}
 use Rattle.claims.specs.Reading as reader
 
 -- ---- of the file, in the grammar's terms
@@ -38,8 +38,8 @@ pub record LastTREE (s : List ℕ) (place : ℕ) (body : List ℕ) : Type 0 wher
   pub c : List ℕ
   pub ms : List Meaning
   pub es : List Ext
-  pub joins : space idLength s ≡ b ++ c
-  pub entries : Entries idLength (versionOf s) start (countOf s) b ms
+  pub joins : space idSize s ≡ b ++ c
+  pub entries : Entries idSize (versionOf s) start (countOf s) b ms
   pub extensions : Extensions c es
   pub last : LastSigned TREE (headerLength + length b) es place body
 
@@ -49,14 +49,14 @@ pub record NoTREE (s : List ℕ) : Type 0 where
   pub c : List ℕ
   pub ms : List Meaning
   pub es : List Ext
-  pub joins : space idLength s ≡ b ++ c
-  pub entries : Entries idLength (versionOf s) start (countOf s) b ms
+  pub joins : space idSize s ≡ b ++ c
+  pub entries : Entries idSize (versionOf s) start (countOf s) b ms
   pub extensions : Extensions c es
   pub no-last : NoneSigned TREE es
 
 -- the premise on the tree, of the walk alone: no node should begin at depth 65, and none after as many heads as nodes are lent
 abbrev pub TreeFits : List ℕ → List ℕ → Type 0
-TreeFits s ns = (place : ℕ) (body : List ℕ) → LastTREE s place body → KeepsWithinDepth idLength body depthLimit × HasRoom idLength body (lent ns)
+TreeFits s ns = (place : ℕ) (body : List ℕ) → LastTREE s place body → KeepsWithinDepth idSize body depthLimit × HasRoom idSize body (lent ns)
 
 -- ---- the rendering of a meaning
 
@@ -74,12 +74,12 @@ answerOf s m = answer.Read (m .version) (m .sparse) (hasTree (m .tree)) (countOf
 -- the node store: the tree's nodes in front; zeros where the last TREE spells none; as it was where there is no TREE
 pub data NodesAfter (s ns : List ℕ) : Option Tree → List ℕ → Type 0 where
   the-tree : {t : Tree} → NodesAfter s ns (some t) (filled ns (treeBytes t))
-  no-tree-spelled : {place : ℕ} {body : List ℕ} → LastTREE s place body → ¬ SpellsTree idLength place body → NodesAfter s ns none (zeroed ns)
+  no-tree-spelled : {place : ℕ} {body : List ℕ} → LastTREE s place body → ¬ SpellsTree idSize place body → NodesAfter s ns none (zeroed ns)
   no-TREE-there : NoTREE s → NodesAfter s ns none ns
 
 pub record Renders (s rs ps ns : List ℕ) (m : Index) (o : Outcome) : Type 0 where
   pub answer : o .answer ≡ answerOf s m
-  pub records : o .records ≡ filled rs (recordsBytes idLength 0 (m .entries))
+  pub records : o .records ≡ filled rs (recordsBytes idSize 0 (m .entries))
   pub paths : o .paths ≡ filled ps (pathsBytes (m .entries))
   pub nodes : NodesAfter s ns (m .tree) (o .nodes)
 
@@ -109,35 +109,35 @@ module _ (s rs ps ns : List ℕ) (slices : Slices s ps ns) where
   contract-says a rs′ ps′ ns′ e = subst (SaysFile s rs ps ns) (sym e) says
 
   -- ---- 1 to 4
-  pub refusal-1-exactly : (reading .answer ≡ answer.ShortFile) ↔ (length s < headerLength + idLength)
+  pub refusal-1-exactly : (reading .answer ≡ answer.ShortFile) ↔ (length s < headerLength + idSize)
   refusal-1-exactly = ((λ q. to (told q)), (λ h. gives (says-short h)))
     where
-      to : {r p n : List ℕ} → SaysFile s rs ps ns (outcome answer.ShortFile r p n) → length s < headerLength + idLength
+      to : {r p n : List ℕ} → SaysFile s rs ps ns (outcome answer.ShortFile r p n) → length s < headerLength + idSize
       to (says-short h) = h
 
-  pub refusal-2-exactly : (reading .answer ≡ answer.NoSignature) ↔ ((headerLength + idLength ≤ length s) × ¬ (take 4 s ≡ DIRC))
+  pub refusal-2-exactly : (reading .answer ≡ answer.NoSignature) ↔ ((headerLength + idSize ≤ length s) × ¬ (take 4 s ≡ DIRC))
   refusal-2-exactly = ((λ q. to (told q)), (λ (h, d). gives (says-no-signature h d)))
     where
-      to : {r p n : List ℕ} → SaysFile s rs ps ns (outcome answer.NoSignature r p n) → (headerLength + idLength ≤ length s) × ¬ (take 4 s ≡ DIRC)
+      to : {r p n : List ℕ} → SaysFile s rs ps ns (outcome answer.NoSignature r p n) → (headerLength + idSize ≤ length s) × ¬ (take 4 s ≡ DIRC)
       to (says-no-signature h d) = (h, d)
 
-  pub refusal-3-exactly : (v : ℕ) → (reading .answer ≡ answer.OtherVersion v) ↔ ((headerLength + idLength ≤ length s) × (take 4 s ≡ DIRC) × (¬ Supported (versionOf s)) × (v ≡ versionOf s))
+  pub refusal-3-exactly : (v : ℕ) → (reading .answer ≡ answer.OtherVersion v) ↔ ((headerLength + idSize ≤ length s) × (take 4 s ≡ DIRC) × (¬ Supported (versionOf s)) × (v ≡ versionOf s))
   refusal-3-exactly v = ((λ q. to (told q)), (λ (h, d, e, f). gives (says-other-version h d e) ∙ ap answer.OtherVersion (sym f)))
     where
-      to : {v : ℕ} {r p n : List ℕ} → SaysFile s rs ps ns (outcome (answer.OtherVersion v) r p n) → (headerLength + idLength ≤ length s) × (take 4 s ≡ DIRC) × (¬ Supported (versionOf s)) × (v ≡ versionOf s)
+      to : {v : ℕ} {r p n : List ℕ} → SaysFile s rs ps ns (outcome (answer.OtherVersion v) r p n) → (headerLength + idSize ≤ length s) × (take 4 s ≡ DIRC) × (¬ Supported (versionOf s)) × (v ≡ versionOf s)
       to (says-other-version h d e) = (h, d, e, refl)
 
-  pub refusal-4-exactly : (reading .answer ≡ answer.BadTrailer) ↔ (GoodHeader idLength s × ¬ GoodTrailer s)
+  pub refusal-4-exactly : (reading .answer ≡ answer.BadTrailer) ↔ (GoodHeader idSize s × ¬ GoodTrailer s)
   refusal-4-exactly = ((λ q. to (told q)), (λ (g, t). gives (says-bad-trailer g t)))
     where
-      to : {r p n : List ℕ} → SaysFile s rs ps ns (outcome answer.BadTrailer r p n) → GoodHeader idLength s × ¬ GoodTrailer s
+      to : {r p n : List ℕ} → SaysFile s rs ps ns (outcome answer.BadTrailer r p n) → GoodHeader idSize s × ¬ GoodTrailer s
       to (says-bad-trailer g t) = (g, t)
 
   -- ---- 6, which needs no room
-  pub refusal-6-exactly : (k : ℕ) → (reading .answer ≡ answer.NoEntryRoom k) ↔ (Opened s × LacksRoomAt idLength (versionOf s) (space idLength s) (countOf s) rs ps k)
+  pub refusal-6-exactly : (k : ℕ) → (reading .answer ≡ answer.NoEntryRoom k) ↔ (Opened s × LacksRoomAt idSize (versionOf s) (space idSize s) (countOf s) rs ps k)
   refusal-6-exactly k = ((λ q. to (told q)), (λ (o, (h, (ms, rest, m, q, (b, i, x), f, y, lacks))). gives (says-no-entry-room o rest q h i x f y lacks)))
     where
-      to : {k : ℕ} {r p n : List ℕ} → SaysFile s rs ps ns (outcome (answer.NoEntryRoom k) r p n) → Opened s × LacksRoomAt idLength (versionOf s) (space idLength s) (countOf s) rs ps k
+      to : {k : ℕ} {r p n : List ℕ} → SaysFile s rs ps ns (outcome (answer.NoEntryRoom k) r p n) → Opened s × LacksRoomAt idSize (versionOf s) (space idSize s) (countOf s) rs ps k
       to (says-no-entry-room o {b = b} {ms = ms} {m = m} rest q h i x f y lacks) = (o, (h, (ms, rest, m, q, (b, i, x), f, y, lacks)))
 
   -- ---- 7 to 10, with room for all entries
@@ -164,34 +164,34 @@ module _ (s rs ps ns : List ℕ) (slices : Slices s ps ns) where
   abbrev pub BehindIsTREE : (ℕ → List ℕ → Type 0) → Type 0
   BehindIsTREE P = (b c : List ℕ) × (ms : List Meaning) × (es : List Ext) × (sparse : Bool) × (place : ℕ) × (body : List ℕ) × WithTree s rs ps ns b c ms es sparse place body × P place body
 
-  pub refusal-9-exactly : (reading .answer ≡ answer.TooDeep) ↔ (Opened s × BehindIsTREE (λ place body. GoesTooDeep idLength body depthLimit (lent ns)))
+  pub refusal-9-exactly : (reading .answer ≡ answer.TooDeep) ↔ (Opened s × BehindIsTREE (λ place body. GoesTooDeep idSize body depthLimit (lent ns)))
   refusal-9-exactly = ((λ q. to (told q)), (λ (o, (b, c, ms, es, sparse, place, body, w, d)). gives (says-too-deep o w d)))
     where
-      to : {r p n : List ℕ} → SaysFile s rs ps ns (outcome answer.TooDeep r p n) → Opened s × BehindIsTREE (λ place body. GoesTooDeep idLength body depthLimit (lent ns))
+      to : {r p n : List ℕ} → SaysFile s rs ps ns (outcome answer.TooDeep r p n) → Opened s × BehindIsTREE (λ place body. GoesTooDeep idSize body depthLimit (lent ns))
       to (says-too-deep o {b = b} {c = c} {ms = ms} {es = es} {sparse = sparse} {place = place} {body = body} w d) = (o, (b, c, ms, es, sparse, place, body, w, d))
 
-  pub refusal-10-exactly : (reading .answer ≡ answer.NoNodeRoom) ↔ (Opened s × BehindIsTREE (λ place body. UsesUp idLength body (lent ns) × ¬ GoesTooDeep idLength body depthLimit (lent ns)))
+  pub refusal-10-exactly : (reading .answer ≡ answer.NoNodeRoom) ↔ (Opened s × BehindIsTREE (λ place body. UsesUp idSize body (lent ns) × ¬ GoesTooDeep idSize body depthLimit (lent ns)))
   refusal-10-exactly = ((λ q. to (told q)), (λ (o, (b, c, ms, es, sparse, place, body, w, (u, d))). gives (says-no-node-room o w u d)))
     where
-      to : {r p n : List ℕ} → SaysFile s rs ps ns (outcome answer.NoNodeRoom r p n) → Opened s × BehindIsTREE (λ place body. UsesUp idLength body (lent ns) × ¬ GoesTooDeep idLength body depthLimit (lent ns))
+      to : {r p n : List ℕ} → SaysFile s rs ps ns (outcome answer.NoNodeRoom r p n) → Opened s × BehindIsTREE (λ place body. UsesUp idSize body (lent ns) × ¬ GoesTooDeep idSize body depthLimit (lent ns))
       to (says-no-node-room o {b = b} {c = c} {ms = ms} {es = es} {sparse = sparse} {place = place} {body = body} w u d) = (o, (b, c, ms, es, sparse, place, body, w, (u, d)))
 
   -- ---- DEMAND 3, under its premises
-  module _ (open-file : Opened s) (room : RoomFor idLength (versionOf s) (space idLength s) (countOf s) rs ps) where
+  module _ (open-file : Opened s) (room : RoomFor idSize (versionOf s) (space idSize s) (countOf s) rs ps) where
     -- refusal 5 names k exactly when the first k entries can be spelled and the next, still within the header's count, cannot
-    pub refusal-5-exactly : (k : ℕ) → (reading .answer ≡ answer.NotSpelled k) ↔ StopsAt idLength (versionOf s) (space idLength s) (countOf s) k
+    pub refusal-5-exactly : (k : ℕ) → (reading .answer ≡ answer.NotSpelled k) ↔ StopsAt idSize (versionOf s) (space idSize s) (countOf s) k
     refusal-5-exactly k = ((λ q. to (told q)), (λ (h, (ms, rest, (b, i, x), none-left)). gives (says-not-spelled open-file rest h i x (room k ms rest (omega arith) (b, i, x)) none-left)))
       where
-        to : {k : ℕ} {r p n : List ℕ} → SaysFile s rs ps ns (outcome (answer.NotSpelled k) r p n) → StopsAt idLength (versionOf s) (space idLength s) (countOf s) k
+        to : {k : ℕ} {r p n : List ℕ} → SaysFile s rs ps ns (outcome (answer.NotSpelled k) r p n) → StopsAt idSize (versionOf s) (space idSize s) (countOf s) k
         to (says-not-spelled o {b = b} {ms = ms} rest h i x f none-left) = (h, (ms, rest, (b, i, x), none-left))
 
     -- and then the stores hold the entries before it, and nothing else is touched
-    pub refusal-5-stores : (k : ℕ) (x : StopsAt idLength (versionOf s) (space idLength s) (countOf s) k) → reading ≡ holding s rs ps ns (x .1 .0) (answer.NotSpelled k)
+    pub refusal-5-stores : (k : ℕ) (x : StopsAt idSize (versionOf s) (space idSize s) (countOf s) k) → reading ≡ holding s rs ps ns (x .1 .0) (answer.NotSpelled k)
     refusal-5-stores k (h, (ms, rest, (b, i, x), none-left)) = only (says-not-spelled open-file rest h i x (room k ms rest (omega arith) (b, i, x)) none-left)
 
     module _ (tree-fits : TreeFits s ns) where
       -- what is spelled is said
-      of-spelled : (m : Index) → Spells idLength (versionOf s) (countOf s) (space idLength s) m → (o : Outcome) × SaysFile s rs ps ns o × Renders s rs ps ns m o
+      of-spelled : (m : Index) → Spells idSize (versionOf s) (countOf s) (space idSize s) m → (o : Outcome) × SaysFile s rs ps ns o × Renders s rs ps ns m o
       of-spelled m (spells {b = b} {c = c} {ms = ms} {es = es} {sparse = sparse} i x y t z) = go z
         where
           all : AllEntries s rs ps ns b c ms
@@ -203,17 +203,17 @@ module _ (s rs ps ns : List ℕ) (slices : Slices s ps ns) where
           within : {place : ℕ} {body : List ℕ} → LastSigned TREE (headerLength + length b) es place body → WithTree s rs ps ns b c ms es sparse place body
           within l = record { entries = all; extensions = y; mark = t; last = l }
 
-          go : {tree : Option Tree} → CacheTree idLength (headerLength + length b) es tree
+          go : {tree : Option Tree} → CacheTree idSize (headerLength + length b) es tree
               → (o : Outcome) × SaysFile s rs ps ns o × Renders s rs ps ns (record { version = versionOf s; sparse = sparse; entries = ms; tree = tree }) o
           go (spelled {place = place} {body = body} {t = v} l n) =
               let (shallow, lent-enough) = tree-fits place body (lying l) in (
                 _,
-                says-tree open-file (within l) n (depth-within idLength body place v n depthLimit .0 shallow) (nodes-within idLength body place v n (lent ns) .0 lent-enough),
+                says-tree open-file (within l) n (depth-within idSize body place v n depthLimit .0 shallow) (nodes-within idSize body place v n (lent ns) .0 lent-enough),
                 record { answer = refl; records = refl; paths = refl; nodes = the-tree },
               )
           go (malformed {place = place} {body = body} l f) =
               let (shallow, lent-enough) = tree-fits place body (lying l) in
-              let none-there : ¬ SpellsTree idLength place body = λ (v, n). f v n in (
+              let none-there : ¬ SpellsTree idSize place body = λ (v, n). f v n in (
                 _,
                 says-malformed open-file (within l) none-there (λ (k, h, r). shallow k r) (λ (d, r). lent-enough d r),
                 record { answer = refl; records = refl; paths = refl; nodes = no-tree-spelled (lying l) none-there },
@@ -225,24 +225,24 @@ module _ (s rs ps ns : List ℕ) (slices : Slices s ps ns) where
           )
 
       -- 3: the reader's answer and all three stores are the rendering of the meaning
-      pub stores-are-the-meaning : (m : Index) → File idLength s m → Renders s rs ps ns m reading
+      pub stores-are-the-meaning : (m : Index) → File idSize s m → Renders s rs ps ns m reading
       stores-are-the-meaning m x = let (o, y, z) = of-spelled m (spelled-in-space x) in subst (Renders s rs ps ns m) (sym (only y)) z
 
       -- 1: the reader accepts the file exactly if the grammar spells it
-      pub accepted-exactly-if-spelled : IsRead (reading .answer) ↔ ((m : Index) × File idLength s m)
+      pub accepted-exactly-if-spelled : IsRead (reading .answer) ↔ ((m : Index) × File idSize s m)
       accepted-exactly-if-spelled = ((λ (v, a, t, r, p, n, q). to (told q)), (λ (m, x). (_, _, _, _, _, _, stores-are-the-meaning m x .answer)))
         where
           indexed : {b c : List ℕ} {ms : List Meaning} {es : List Ext} {sparse : Bool} {tree : Option Tree} → AllEntries s rs ps ns b c ms → Extensions c es → Tells (Sparse ms es) sparse
-              → CacheTree idLength (headerLength + length b) es tree → (m : Index) × File idLength s m
+              → CacheTree idSize (headerLength + length b) es tree → (m : Index) × File idSize s m
           indexed a y t z = (_, space-spelled (open-file .header) (spells (a .joins) (a .spelled) y t z))
 
-          to : {v : ℕ} {sparse tree : Bool} {r p n : ℕ} {rs₁ ps₁ ns₁ : List ℕ} → SaysFile s rs ps ns (outcome (answer.Read v sparse tree r p n) rs₁ ps₁ ns₁) → (m : Index) × File idLength s m
+          to : {v : ℕ} {sparse tree : Bool} {r p n : ℕ} {rs₁ ps₁ ns₁ : List ℕ} → SaysFile s rs ps ns (outcome (answer.Read v sparse tree r p n) rs₁ ps₁ ns₁) → (m : Index) × File idSize s m
           to (says-no-TREE o a y t none-signed) = indexed a y t (absent none-signed)
           to (says-tree o w x h k) = indexed (w .entries) (w .extensions) (w .mark) (spelled (w .last) x)
           to (says-malformed o w f d e) = indexed (w .entries) (w .extensions) (w .mark) (malformed (w .last) (λ v x. f (v, x)))
 
       -- 2 is the grammar's own: `one-meaning`. So what is accepted has one meaning, and the stores hold that
-      pub accepted-is-the-one-meaning : IsRead (reading .answer) → (m : Index) × File idLength s m × Renders s rs ps ns m reading × ((o : Index) → File idLength s o → o ≡ m)
+      pub accepted-is-the-one-meaning : IsRead (reading .answer) → (m : Index) × File idSize s m × Renders s rs ps ns m reading × ((o : Index) → File idSize s o → o ≡ m)
       accepted-is-the-one-meaning q =
           let (m, x) = accepted-exactly-if-spelled .0 q in
-          (m, x, stores-are-the-meaning m x, (λ o y. one-meaning idLength s o m y x))
+          (m, x, stores-are-the-meaning m x, (λ o y. one-meaning idSize s o m y x))

@@ -8,7 +8,7 @@ use native.Mathlib.Omega.{arith}
 use lib.Dec.{lit≤, lit<}
 use lib.ListN.{length, replicate, length-append}
 use Rattle.laws.specs.Times.{done, more}
-use Rattle.file.specs.Marked.{least-file}
+use Rattle.format.specs.Format.{idSize}
 use Rattle.grammar.specs.Extension.{Ext, LastSigned, last-signed, bytesOf}
 use Rattle.file.specs.Read.{readFile}
 use Rattle.grammar.specs.File.{Index, File, space}
@@ -16,7 +16,8 @@ use Rattle.grammar.specs.Fault.{extensions-length}
 use Rattle.claims_entries.specs.Rendering.{pathsBytes}
 use Rattle.claims_entries.specs.Said.{RoomFor}
 use Rattle.claims_extension.specs.Words.{allBytes, bytes-if}
-use Rattle.claims.specs.Premises.{idLength, Slices, zeros}
+use Rattle.claims.specs.Premises.{Slices, zeros}
+use Rattle.claims.specs.Marked.{least-file}
 use Rattle.claims.specs.Said.{Opened}
 use Rattle.claims.specs.Claims.{TreeFits, IsRead, accepted-exactly-if-spelled}
 
@@ -38,18 +39,18 @@ opened : Opened least-file
 opened = record { header = record { long = lit≤ tt; signature = refl; version = record { oldest = lit≤ tt; newest = lit≤ tt } }; trailer = zeros refl }
 
 -- no entry comes before the first not spelled, for there is none
-room : RoomFor idLength 2 (space idLength least-file) 0 records paths
+room : RoomFor idSize 2 (space idSize least-file) 0 records paths
 unfolding pathsBytes
 room k ms rest h (b, i, done) = record { records = lit≤ tt; paths = lit≤ tt }
 room k ms rest h (b, i, more x y) = absurd (omega arith)
 
--- there is no TREE, so no walk of one
+-- where there is no byte of extensions there is no last TREE, and so no walk of one
 no-extension : (es : List Ext) → bytesOf es ≡ 0 → (before behind : List Ext) (e : Ext) → es ≡ before ++ (e ∷ behind) → ⊥
 no-extension [] h [] behind e q = let z : _≡_ {A = ℕ} 0 1 = cc in omega arith
 no-extension [] h (f ∷ before) behind e q = let z : _≡_ {A = ℕ} 0 1 = cc in omega arith
 no-extension (f ∷ es) h before behind e q = omega arith
 
-none-last : {signature : List ℕ} {from : ℕ} {es : List Ext} {place : ℕ} {body : List ℕ} → LastSigned signature from es place body → bytesOf es ≡ 0 → ⊥
+pub none-last : {signature : List ℕ} {from : ℕ} {es : List Ext} {place : ℕ} {body : List ℕ} → LastSigned signature from es place body → bytesOf es ≡ 0 → ⊥
 none-last {es = es} (last-signed before {e = e} behind q s n) h = no-extension es h before behind e q
 
 tree-fits : TreeFits least-file nodes
@@ -58,5 +59,5 @@ tree-fits place body x =
     absurd (none-last (x .last) (sym (extensions-length (x .extensions)) ∙ empty))
 
 -- so the claims speak of it
-pub claimed : IsRead (readFile 20 64 least-file records paths nodes .answer) ↔ ((m : Index) × File idLength least-file m)
+pub claimed : IsRead (readFile 20 64 least-file records paths nodes .answer) ↔ ((m : Index) × File idSize least-file m)
 claimed = accepted-exactly-if-spelled least-file records paths nodes slices opened room tree-fits

@@ -1,16 +1,17 @@
 -- The header and the trailer: what `headerAt` and `goodTrailer`, which the reader's contract cites, say in the grammar's terms. Assumes that the file is bytes.
 use Prim.Native.Nat.{ℕ, _+_, _≤_, _<_}
 use mathlib.Core.Path.{_≡_, refl, sym, ap, _∙_}
-use mathlib.Core.Bool.{Bool, true, false}
+use mathlib.Core.Bool.{Bool, true}
 use mathlib.Core.List.{List}
 use mathlib.Core.Logic.{_↔_, ⊎-elim}
 use native.Mathlib.Omega.{arith}
-use lib.Dec.{ltb, eqb}
+use lib.Dec.{eqb}
 use lib.ListN.{length, take, drop, take-append-drop}
 use lib.Seq.{length-take-le}
 use Rattle.laws.specs.Pick.{pick}
 use Rattle.laws.specs.Tests.{lt-or-ge, Less, less, not-less, less?, Same, same, differs, same?}
 use Rattle.wire.specs.BigEndian.{beAt}
+use Rattle.format.specs.Format.{idSize}
 use Rattle.decode.specs.Header.{signature, onVersion, headerAt}
 use Rattle.decode.specs.declared.header.Header.{Header as Opening}
 use Rattle.decode.specs.declared.header.Header.the-variants.{Opens, ShortFile, NoSignature, OtherVersion}
@@ -22,7 +23,7 @@ use Rattle.claims_entries.specs.Parts.{be-is}
 use Rattle.claims_entries.specs.Rendering.{Bytes}
 use Rattle.claims_entries.specs.Fields.{bytes-left}
 use Rattle.claims_extension.specs.Words.{allBytes, bytes-if, FourBytes, signature-injective}
-use Rattle.claims.specs.Premises.{idLength, GoodTrailer, zeros, hashed}
+use Rattle.claims.specs.Premises.{GoodTrailer, zeros, hashed}
 
 -- ---- the trailer
 
@@ -42,12 +43,12 @@ trailer-exactly s = ((λ e. to (good-exactly s .0 e)), (λ g. good-exactly s .1 
 -- what each answer says
 pub data SaysHeader (s : List ℕ) : Opening → Type 0 where
   -- 1
-  says-short : length s < headerLength + idLength → SaysHeader s ShortFile
+  says-short : length s < headerLength + idSize → SaysHeader s ShortFile
   -- 2
-  says-no-signature : headerLength + idLength ≤ length s → (take 4 s ≡ DIRC → ⊥) → SaysHeader s NoSignature
+  says-no-signature : headerLength + idSize ≤ length s → (take 4 s ≡ DIRC → ⊥) → SaysHeader s NoSignature
   -- 3
-  says-other-version : headerLength + idLength ≤ length s → take 4 s ≡ DIRC → (Supported (versionOf s) → ⊥) → SaysHeader s (OtherVersion (versionOf s))
-  says-opens : GoodHeader idLength s → SaysHeader s (Opens (versionOf s) (countOf s))
+  says-other-version : headerLength + idSize ≤ length s → take 4 s ≡ DIRC → (Supported (versionOf s) → ⊥) → SaysHeader s (OtherVersion (versionOf s))
+  says-opens : GoodHeader idSize s → SaysHeader s (Opens (versionOf s) (countOf s))
 
 -- "DIRC" as bytes
 dirc-bytes : FourBytes DIRC
@@ -64,7 +65,7 @@ module _ (s : List ℕ) (bytes : Bytes s) where
   unsigned : 4 ≤ length s → (beAt 4 s 0 ≡ signature → ⊥) → take 4 s ≡ DIRC → ⊥
   unsigned h d e = d (sym (be-is 4 s 0 h) ∙ ap bigEndian e)
 
-  version-says : headerLength + idLength ≤ length s → take 4 s ≡ DIRC → SaysHeader s (onVersion (versionOf s) (countOf s))
+  version-says : headerLength + idSize ≤ length s → take 4 s ≡ DIRC → SaysHeader s (onVersion (versionOf s) (countOf s))
   unfolding onVersion
   version-says h d = two (same? (versionOf s) 2)
     where
@@ -91,16 +92,16 @@ module _ (s : List ℕ) (bytes : Bytes s) where
   -- of the answer that is given its rule holds
   pub header-says : SaysHeader s (headerAt 20 s)
   unfolding headerAt
-  header-says = long (less? (length s) (headerLength + idLength))
+  header-says = long (less? (length s) (headerLength + idSize))
     where
-      named : headerLength + idLength ≤ length s → {t : Bool} → Same (beAt 4 s 0) signature t → SaysHeader s (pick t (onVersion (beAt 4 s 4) (beAt 4 s 8)) NoSignature)
+      named : headerLength + idSize ≤ length s → {t : Bool} → Same (beAt 4 s 0) signature t → SaysHeader s (pick t (onVersion (beAt 4 s 4) (beAt 4 s 8)) NoSignature)
       named h (same e) =
           let v : versionOf s ≡ beAt 4 s 4 = be-is 4 s 4 (omega arith) in
           let c : countOf s ≡ beAt 4 s 8 = be-is 4 s 8 (omega arith) in
           rw (← v, ← c) (version-says h (signed (omega arith) e))
       named h (differs d) = says-no-signature h (unsigned (omega arith) d)
 
-      long : {t : Bool} → Less (length s) (headerLength + idLength) t → SaysHeader s (pick t ShortFile (pick (eqb (beAt 4 s 0) signature) (onVersion (beAt 4 s 4) (beAt 4 s 8)) NoSignature))
+      long : {t : Bool} → Less (length s) (headerLength + idSize) t → SaysHeader s (pick t ShortFile (pick (eqb (beAt 4 s 0) signature) (onVersion (beAt 4 s 4) (beAt 4 s 8)) NoSignature))
       long (less h) = says-short h
       long (not-less h) = named h (same? (beAt 4 s 0) signature)
 

@@ -4,15 +4,8 @@ use Prim.Native.Nat.{ℕ, _-_, _^_, _<_}
 use mathlib.Core.Path.{_≡_}
 use mathlib.Core.List.{List}
 use lib.ListN.{length, getD, take, drop, replicate}
+use Rattle.format.specs.Format.{idSize}
 use Rattle.sha1.specs.Sha1.{sha1}
-
--- an id of SHA-1, and so the trailer
-abbrev pub idLength : ℕ
-idLength = 20
-
--- how deep a tree the reader follows; the root has depth 1
-abbrev pub depthLimit : ℕ
-depthLimit = 64
 
 -- what every lent slice has: its elements are bytes, and there are fewer than 2^64 of them
 pub record Slices (s ps ns : List ℕ) : Type 0 where
@@ -23,11 +16,11 @@ pub record Slices (s ps ns : List ℕ) : Type 0 where
 
 -- the file without its trailer, and the trailer
 abbrev pub content : List ℕ → List ℕ
-content s = take (length s - idLength) s
+content s = take (length s - idSize) s
 
 abbrev pub trailer : List ℕ → List ℕ
-trailer s = drop (length s - idLength) s
+trailer s = drop (length s - idSize) s
 
 pub data GoodTrailer (s : List ℕ) : Type 0 where
-  zeros : trailer s ≡ replicate idLength 0 → GoodTrailer s
+  zeros : trailer s ≡ replicate idSize 0 → GoodTrailer s
   hashed : trailer s ≡ sha1 (content s) → GoodTrailer s

@@ -1,34 +1,32 @@
 -- THE READER'S ANSWER of a whole file, `readFile`, which its contract cites, is one of which its rule holds, and the only one. Assumes that the file is bytes and that no slice has 2^64
 -- bytes or more, a premise with a name.
-use Prim.Native.Nat.{ℕ, _+_, _-_, _≤_, _<_}
+use Prim.Native.Nat.{ℕ, _+_, _-_, _≤_}
 use mathlib.Core.Path.{_≡_, refl, sym, ap, _∙_, subst}
 use mathlib.Core.Bool.{Bool, true, false}
-use mathlib.Core.List.{List, _++_}
+use mathlib.Core.List.{List}
 use native.Mathlib.Omega.{arith}
 use lib.Dec.{lit≤}
 use lib.ListN.{length, take, drop, length-append, length-drop}
 use lib.Seq.{drop-at, drop-drop, length-take-le}
 use Rattle.laws.specs.Pick.{pick}
-use Rattle.wire.specs.Places.{fileAt, pathAt}
+use Rattle.format.specs.Format.{depthLimit, idSize}
 use Rattle.decode.specs.Header.{headerAt}
 use Rattle.decode.specs.Entries as ran
 use Rattle.decode.specs.declared.header.Header.{Header as Opening}
-use Rattle.decode.specs.declared.header.Header.the-variants.{Opens, ShortFile, NoSignature, OtherVersion}
 use Rattle.extension.specs.Signatures as reader
 use Rattle.extension.specs.Decode.{walkAt}
 use Rattle.extension.specs.declared.iter.Body.{Body}
-use Rattle.extension.specs.declared.iter.Body.the-variants.{Lies, Missing}
 use Rattle.extension.specs.declared.decode.Walked.{Walked}
 use Rattle.extension.specs.declared.decode.Walked.the-variants as walked
 use Rattle.tree.specs.Tree.{readTree}
 use Rattle.tree.specs.declared.TreeAnswer.{TreeAnswer}
 use Rattle.tree.specs.declared.TreeAnswer.the-variants as grown
 use Rattle.file.specs.Trailer.{goodTrailer}
-use Rattle.file.specs.Read.{Outcome, outcome, marked, grownInto, onWalked, extensionsInto, withNodes, afterEntries, entriesInto, readFile}
+use Rattle.file.specs.Read.{Outcome, grownInto, onWalked, extensionsInto, withNodes, afterEntries, entriesInto, readFile}
 use Rattle.file.specs.declared.Entries.{Entries as Sofar}
 use Rattle.file.specs.declared.Answer.the-variants as answer
-use Rattle.grammar.specs.Entry.{Meaning, start, Entries}
-use Rattle.grammar.specs.Extension.{Ext, TREE, Extensions, NoneSigned, LastSigned}
+use Rattle.grammar.specs.Entry.{Meaning}
+use Rattle.grammar.specs.Extension.{Ext, TREE, Extensions, LastSigned}
 use Rattle.grammar.specs.File.{headerLength, Sparse, Tells, versionOf, countOf, space, GoodHeader}
 use Rattle.grammar.specs.DecideFile.{tells-unique}
 use Rattle.claims_entries.specs.Rendering.{recordsBytes, pathsBytes, sparseBy, sparse-tells}
@@ -39,13 +37,13 @@ use Rattle.claims_extension.specs.Claims as extensions
 use Rattle.claims_extension.specs.Body.{BodyAt}
 use Rattle.claims_tree.specs.Said as tree
 use Rattle.claims_tree.specs.Claims as trees
-use Rattle.claims.specs.Premises.{idLength, depthLimit, Slices, GoodTrailer}
+use Rattle.claims.specs.Premises.{Slices}
 use Rattle.claims.specs.Header.{trailer-exactly, says-short, says-no-signature, says-other-version, says-opens, SaysHeader, header-says, one-header}
 use Rattle.claims.specs.Said as said
 
 module _ (s rs ps ns : List ℕ) (slices : Slices s ps ns) where
   abbrev end : ℕ
-  end = length s - idLength
+  end = length s - idSize
 
   abbrev reading : Outcome
   reading = readFile 20 64 s rs ps ns
@@ -68,7 +66,7 @@ module _ (s rs ps ns : List ℕ) (slices : Slices s ps ns) where
   space-in : said.Opened s → entry.SpaceIn s headerLength end
   space-in o = record { ahead = omega (arith, o .header .long); inside = omega arith }
 
-  entries-are : said.Opened s → {o : ran.Outcome} → entry.SaysRead idLength (versionOf s) headerLength (space idLength s) (countOf s) rs ps o
+  entries-are : said.Opened s → {o : ran.Outcome} → entry.SaysRead idSize (versionOf s) headerLength (space idSize s) (countOf s) rs ps o
       → reading ≡ afterEntries 20 64 s (versionOf s) (countOf s) ns o
   unfolding entriesInto
   entries-are o x = opened o ∙ ap (afterEntries 20 64 s (versionOf s) (countOf s) ns) (entries.no-second-answer s (slices .bytes) (versionOf s) headerLength end (countOf s) (space-in o) rs ps x)
@@ -88,18 +86,18 @@ module _ (s rs ps ns : List ℕ) (slices : Slices s ps ns) where
     ahead : next ≤ end
     ahead =
         let h : 32 ≤ length s = o .header .long in
-        let l : length (space idLength s) ≡ end - headerLength = length-drop headerLength (take end s) ∙ ap (λ (k : ℕ). k - headerLength) (length-take-le end s (omega arith)) in
+        let l : length (space idSize s) ≡ end - headerLength = length-drop headerLength (take end s) ∙ ap (λ (k : ℕ). k - headerLength) (length-take-le end s (omega arith)) in
         omega (arith, ap length (a .joins), length-append b c)
 
     inside : end ≤ length s
     inside = omega arith
 
     all-read : {w : Walked} → walkAt s next end reader.TREE ≡ w
-        → reading ≡ withNodes (entry.filled rs (recordsBytes idLength 0 ms)) (entry.filled ps (pathsBytes ms)) (onWalked 20 64 s (sofar ms) ns w)
+        → reading ≡ withNodes (entry.filled rs (recordsBytes idSize 0 ms)) (entry.filled ps (pathsBytes ms)) (onWalked 20 64 s (sofar ms) ns w)
     unfolding extensionsInto
     all-read e =
         entries-are o (entry.says-done c (a .joins) (a .spelled) (a .fits))
-        ∙ ap (λ (v : Walked). withNodes (entry.filled rs (recordsBytes idLength 0 ms)) (entry.filled ps (pathsBytes ms)) (onWalked 20 64 s (sofar ms) ns v)) e
+        ∙ ap (λ (v : Walked). withNodes (entry.filled rs (recordsBytes idSize 0 ms)) (entry.filled ps (pathsBytes ms)) (onWalked 20 64 s (sofar ms) ns v)) e
 
     -- ---- the extensions
 
@@ -127,24 +125,24 @@ module _ (s rs ps ns : List ℕ) (slices : Slices s ps ns) where
       at-its-place : BodyAt s end place body
       at-its-place = extensions.body-is-the-bytes s (slices .bytes) next end ahead inside es (subst (λ (z : List ℕ). Extensions z es) (sym behind) x) place body l
 
-      tree-is : {p : TreeAnswer × List ℕ} → tree.SaysReadTree idLength place body depthLimit ns p → readTree 20 64 s place (place + length body) ns ≡ p
+      tree-is : {p : TreeAnswer × List ℕ} → tree.SaysReadTree idSize place body depthLimit ns p → readTree 20 64 s place (place + length body) ns ≡ p
       tree-is {p} y =
           trees.no-second-answer 20 (lit≤ tt) 64 s place (place + length body) ns (omega (arith, at-its-place .fits)) (slices .file) (slices .nodes)
-          (subst (λ (z : List ℕ). tree.SaysReadTree idLength place z depthLimit ns p) (sym (at-its-place .is)) y)
+          (subst (λ (z : List ℕ). tree.SaysReadTree idSize place z depthLimit ns p) (sym (at-its-place .is)) y)
 
-      tree-says : tree.SaysReadTree idLength place body depthLimit ns (readTree 20 64 s place (place + length body) ns)
+      tree-says : tree.SaysReadTree idSize place body depthLimit ns (readTree 20 64 s place (place + length body) ns)
       tree-says =
-          subst (λ (z : List ℕ). tree.SaysReadTree idLength place z depthLimit ns (readTree 20 64 s place (place + length body) ns)) (at-its-place .is)
+          subst (λ (z : List ℕ). tree.SaysReadTree idSize place z depthLimit ns (readTree 20 64 s place (place + length body) ns)) (at-its-place .is)
           (trees.answer-says 20 (lit≤ tt) 64 s place (place + length body) ns (omega (arith, at-its-place .fits)) (slices .file) (slices .nodes))
 
   -- the last TREE, read
   tree-read : said.Opened s → {b c : List ℕ} {ms : List Meaning} {es : List Ext} {sparse : Bool} {place : ℕ} {body : List ℕ} → (w : said.WithTree s rs ps ns b c ms es sparse place body)
-      → {p : TreeAnswer × List ℕ} → tree.SaysReadTree idLength place body depthLimit ns p
-      → reading ≡ withNodes (entry.filled rs (recordsBytes idLength 0 ms)) (entry.filled ps (pathsBytes ms)) (grownInto (record { version = versionOf s; sparse = sparse; records = countOf s; used = length (pathsBytes ms) }) p)
+      → {p : TreeAnswer × List ℕ} → tree.SaysReadTree idSize place body depthLimit ns p
+      → reading ≡ withNodes (entry.filled rs (recordsBytes idSize 0 ms)) (entry.filled ps (pathsBytes ms)) (grownInto (record { version = versionOf s; sparse = sparse; records = countOf s; used = length (pathsBytes ms) }) p)
   tree-read o {ms = ms} w y =
       let (mark, e, q) = filled-walk o (w .entries) (w .extensions) (w .mark) (ext.says-lies (w .last)) in
       all-read o (w .entries) e
-      ∙ (λ i. withNodes (entry.filled rs (recordsBytes idLength 0 ms)) (entry.filled ps (pathsBytes ms))
+      ∙ (λ i. withNodes (entry.filled rs (recordsBytes idSize 0 ms)) (entry.filled ps (pathsBytes ms))
       (grownInto (record { version = versionOf s; sparse = q i; records = countOf s; used = length (pathsBytes ms) }) (tree-is o (w .entries) (w .extensions) (w .last) y i)))
 
   -- ---- an answer of which its rule holds is the one that is given
@@ -171,7 +169,7 @@ module _ (s rs ps ns : List ℕ) (slices : Slices s ps ns) where
   Some = (o : Outcome) × said.SaysFile s rs ps ns o
 
   some-tree : said.Opened s → {b c : List ℕ} {ms : List Meaning} {es : List Ext} {sparse : Bool} {place : ℕ} {body : List ℕ} → said.WithTree s rs ps ns b c ms es sparse place body
-      → {p : TreeAnswer × List ℕ} → tree.SaysReadTree idLength place body depthLimit ns p → Some
+      → {p : TreeAnswer × List ℕ} → tree.SaysReadTree idSize place body depthLimit ns p → Some
   some-tree o w (tree.says-tree x h k) = (_, said.says-tree o w x h k)
   some-tree o w (tree.says-too-deep d) = (_, said.says-too-deep o w d)
   some-tree o w (tree.says-no-room f d) = (_, said.says-no-node-room o w f d)
@@ -184,12 +182,12 @@ module _ (s rs ps ns : List ℕ) (slices : Slices s ps ns) where
   some-extensions o {ms = ms} a (ext.says-filled {es = es} {sparse = mark} x m (ext.says-lies l)) =
       some-tree o (record { entries = a; extensions = x; mark = ext.either-marks (sparse-tells ms) m; last = l }) (tree-says o a x l)
 
-  some-entries : said.Opened s → {o : ran.Outcome} → entry.SaysRead idLength (versionOf s) headerLength (space idLength s) (countOf s) rs ps o → Some
+  some-entries : said.Opened s → {o : ran.Outcome} → entry.SaysRead idSize (versionOf s) headerLength (space idSize s) (countOf s) rs ps o → Some
   some-entries o (entry.says-done {b = b} {ms = ms} rest i x f) = let a : said.AllEntries s rs ps ns b rest ms = record { joins = i; spelled = x; fits = f } in some-extensions o a (walk-says o a)
   some-entries o (entry.says-not-spelled rest h i x f none) = (_, said.says-not-spelled o rest h i x f none)
   some-entries o (entry.says-no-room rest q h i x f y lacks) = (_, said.says-no-entry-room o rest q h i x f y lacks)
 
-  some-trailer : GoodHeader idLength s → (t : Bool) → goodTrailer 20 s ≡ t → Some
+  some-trailer : GoodHeader idSize s → (t : Bool) → goodTrailer 20 s ≡ t → Some
   some-trailer g true e =
       let o : said.Opened s = record { header = g; trailer = trailer-exactly s .0 e } in
       some-entries o (entries.answer-says s (slices .bytes) (versionOf s) headerLength end (countOf s) (space-in o) rs ps)

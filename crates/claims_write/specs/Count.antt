@@ -13,8 +13,8 @@ use Rattle.laws.specs.Tests.{lt-or-ge, Same, same, differs, same?}
 use Rattle.node.specs.Store.{nodesIn, parentAt}
 use Rattle.tree_write.specs.Order.{before, false-true, before-not}
 use Rattle.tree_write.specs.Tree.{headBytes, each, nodeBytes}
-use Rattle.tree_write.specs.Proper.{climbs}
-use Rattle.tree_write.specs.Table.{Proper}
+use Rattle.proper.specs.Proper.{climbs}
+use Rattle.proper.specs.Table.{Proper}
 use Rattle.tree_write.specs.Kids.{Mem, here, there, not-mem}
 use Rattle.grammar.specs.Tree.{Tree, nodes, nodesOf}
 use Rattle.claims_write.specs.Tree.{total, hits, total-same, total-hits, no-hits, one-hit, kidsOf, kids-are, kids-all, kids-rise, Level, root, below, level-within, subtreesOf, treeAt}

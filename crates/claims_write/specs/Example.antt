@@ -15,7 +15,7 @@ use Rattle.entry.specs.Record.{fieldAt, liesInside, pathAt}
 use Rattle.node.specs.Store.{wordAt, idAt, isPart, partOf, nameInside, nameAt}
 use Rattle.siblings.specs.Siblings.{anyIn, twin, repeats, siblingsDiffer}
 use Rattle.tree_write.specs.Tree.{countBytes, frontBytes, numberBytes, idBytes, headBytes, better, bestRun, nextKid, kids, each, nodeBytes}
-use Rattle.tree_write.specs.Proper.{parentFits, countFits, holdsNone, nameFits, climbs, nodeFits, childCount, kidsFit, allIn, isProper}
+use Rattle.proper.specs.Proper.{parentFits, countFits, holdsNone, nameFits, climbs, nodeFits, childCount, kidsFit, allIn, isProper}
 use Rattle.grammar.specs.Entry.NoNul.{empty, byte}
 use Rattle.claims_entries.specs.Rendering.{pathsBytes}
 use Rattle.claims_extension.specs.Words.{allBytes, bytes-if}

@@ -7,7 +7,7 @@ use native.Mathlib.Omega.{arith}
 use lib.ListN.{length, length-append}
 use Rattle.node.specs.Store.{nodesIn, countAt, subtreesAt, parentAt, nameAt}
 use Rattle.tree_write.specs.Tree.{idBytes, headBytes, each, nodeBytes}
-use Rattle.tree_write.specs.Table.{Proper}
+use Rattle.proper.specs.Table.{Proper}
 use Rattle.tree_write.specs.Kids.{Mem, here, there}
 use Rattle.grammar.specs.Tree.{Tree, Subtrees, nodes}
 use Rattle.claims_tree.specs.Rendering.{howMany, nodeBytes as rowBytes, nodesBytes, subtreesBytes, treeBytes}

@@ -22,8 +22,8 @@ use Rattle.siblings.specs.Siblings.{isChild}
 use Rattle.siblings.specs.InOrder.{Distinct as DistinctAt, differ-distinct}
 use Rattle.tree_write.specs.Order.{before, false-true, before-not, before-names}
 use Rattle.tree_write.specs.Tree.{after, countBytes, frontBytes, numberBytes, idBytes, headBytes, kids, each, nodeBytes}
-use Rattle.tree_write.specs.Proper.{isNever, holdsNone, climbs, childCount}
-use Rattle.tree_write.specs.Table.{Proper}
+use Rattle.proper.specs.Proper.{isNever, holdsNone, climbs, childCount}
+use Rattle.proper.specs.Table.{Proper}
 use Rattle.tree_write.specs.Kids.{Mem, here, there, Rising, done, more, top, tally-all, cand, goes}
 use Rattle.grammar.specs.Number.{Digit, Digits, last-digit, digit, Count, covers, invalid, Signed, minus}
 use Rattle.grammar.specs.Number.Signed.{plain as no-sign}

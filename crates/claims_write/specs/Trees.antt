@@ -16,8 +16,8 @@ use Rattle.grammar.specs.DecideTree.{readTree, tree-decided}
 use Rattle.claims_tree.specs.Rendering.{treeBytes}
 use Rattle.claims_tree.specs.Said.{lent, KeepsWithinDepth, HasRoom}
 use Rattle.node.specs.Store.{nodesIn}
-use Rattle.tree_write.specs.Proper.{isProper}
-use Rattle.tree_write.specs.Table.{Proper, proper-exactly}
+use Rattle.proper.specs.Proper.{isProper}
+use Rattle.proper.specs.Table.{Proper, proper-exactly}
 use Rattle.write.specs.declared.Options.{Options}
 use Rattle.write.specs.declared.Answer.the-variants.{Done}
 use Rattle.write.specs.File.{writesTree, treeFits, writeAll}

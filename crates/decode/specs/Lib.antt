@@ -4,4 +4,3 @@ pub mod Bounds
 pub mod Entries
 pub mod Laws
 pub mod Stores
-pub mod Marked

@@ -3,4 +3,3 @@ pub mod Trailer
 pub mod Answer
 pub mod Read
 pub mod Laws
-pub mod Marked

@@ -10,9 +10,9 @@ idSize = 20
 abbrev pub headerSize : ℕ
 headerSize = 12
 
--- an extension's signature and size
-abbrev pub extensionHeaderSize : ℕ
-extensionHeaderSize = 8
+-- a length field of this value says that the path runs to the first NUL
+abbrev pub longPath : ℕ
+longPath = 4095
 
 -- "depth is at most 64"; the root has depth 1
 abbrev pub depthLimit : ℕ

@@ -9,6 +9,7 @@ use Rattle.laws.specs.Pick.{pick}
 use Rattle.slices.specs.Bytes.{nulAt}
 use Rattle.slices.specs.declared.Ends.{Ends}
 use Rattle.slices.specs.declared.Ends.the-variants.{With, Never}
+use Rattle.format.specs.Format.{longPath}
 use Rattle.wire.specs.Places.{fileAt}
 use Rattle.wire.specs.BigEndian.{beAt}
 use Rattle.wire.specs.Groups.{numberAt}
@@ -34,10 +35,6 @@ plainSize id = 42 + id
 
 abbrev pub extendedSize : ℕ → ℕ
 extendedSize id = 44 + id
-
--- the length field that says "to the first NUL"
-abbrev pub toNul : ℕ
-toNul = 4095
 
 abbrev pub onExtended : Extended → Head → (ℕ → Head) → Head
 onExtended (Kept bits) bad good = good bits
@@ -98,7 +95,7 @@ onHead Spoiled short fault good = fault
 -- versions 2 and 3
 unfoldable pub paddedAt : List ℕ → ℕ → ℕ → ℕ → ℕ → ℕ → Measured
 paddedAt s at end flags size field =
-    pick (eqb field toNul)
+    pick (eqb field longPath)
     (onEnds (nulAt s (at + size) end) Short (λ z. paddedTo at end flags size (z - (at + size))))
     (paddedTo at end flags size field)
 

@@ -1,6 +1,6 @@
 -- What EOIE, IEOT and the bound of entries come to in numbers. None of them refuses. Assumes nothing.
 use Prim.Native.Nat.{ℕ}
-use mathlib.Core.List.{List, []}
+use mathlib.Core.List.{[]}
 use lib.Dec.{eqb}
 use Rattle.laws.specs.Pick.{pick}
 use Rattle.decode.specs.declared.entries.Extensions.{Extensions}

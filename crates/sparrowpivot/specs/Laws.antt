@@ -1,19 +1,21 @@
 -- Each answer as a match finds it, told as the definitions tell it: the laws that the proofs cite. Assumes nothing.
-use Prim.Native.Nat.{ℕ, _+_, _-_, _*_, _≤_, _<_}
+use Prim.Native.Nat.{ℕ, _+_, _-_, _*_, _/_, _%_, _^_, _≤_, _<_}
 use native.Mathlib.Omega.{arith}
 use mathlib.Core.Bool.{Bool}
 use mathlib.Core.List.{List, [], _∷_, _++_, append-nil}
 use mathlib.Core.Path.{_≡_, sym, ap, _∙_}
 use lib.ListN.{length, take, replicate, drop-of-length-le}
-use lib.Dec.{ltb}
+use lib.Dec.{ltb, eqb}
 use lib.Seq.{paste, take-all}
 use borrow.Author.Tests.{lt-ltb, le-ltb, eq-eqb, ne-eqb}
 use Rattle.laws.specs.Lists.{length-part}
 use Rattle.wire.specs.Places.{fileAt}
 use Rattle.wire.specs.declared.FileAt.{FileAt}
 use Rattle.wire.specs.declared.PathAt.{PathAt}
-use Rattle.refusal.specs.Refusal.{not-spelled, no-entry-room, no-stage, path-outside, not-after}
+use Rattle.refusal.specs.Refusal.{not-spelled, no-entry-room, no-stage, path-outside, not-after, short-output, too-large, not-proper}
+use Rattle.format.specs.Format.{depthLimit}
 use Rattle.format.specs.Format.{headerSize, idSize}
+use Rattle.sha1.specs.Sha1.{sha1}
 use Rattle.decode.specs.Entries as entries
 use Rattle.decode.specs.declared.entries.Answer.{Answer as Ran}
 use Rattle.decode.specs.declared.entries.Answer.the-variants as ran
@@ -21,6 +23,10 @@ use Rattle.file.specs.Answer.{numberOf}
 use Rattle.file.specs.Read as file
 use Rattle.file.specs.declared.Answer.{Answer}
 use Rattle.file.specs.declared.Answer.the-variants as answer
+use Rattle.write.specs.File as write
+use Rattle.write.specs.declared.Options.{Options}
+use Rattle.write.specs.declared.Answer.{Answer as Written}
+use Rattle.write.specs.declared.Answer.the-variants as written
 use Rattle.decode.specs.Bounds.{maxEntries}
 use Rattle.decode.specs.declared.entries.Extensions.{Extensions}
 use Rattle.decode.specs.declared.entries.Extensions.the-variants.{From, NotTold}
@@ -40,6 +46,7 @@ use Rattle.extension.specs.declared.index_entry_offset_table.Offset.{Offset as 
 use Rattle.extension.specs.declared.index_entry_offset_table.Offset.the-variants as pair
 use Rattle.sparrowpivot.specs.Told.{Told, told, bit, one, two, three}
 use Rattle.sparrowpivot.specs.Reading.{begin, readValues, tellRead, tellEntries}
+use Rattle.sparrowpivot.specs.Writing.{optionsFrom, tellWrite}
 use Rattle.sparrowpivot.specs.Searching.{tellFound, tellVerified}
 use Rattle.sparrowpivot.specs.Extensions.{tellOffset, tellTable, tellPair, extensionsFrom}
 use Rattle.sparrowpivot.specs.Tables.{statValues, tellRecord, tellStat, tellNode, nodeId}
@@ -73,6 +80,37 @@ module _ (s rs₀ ps₀ rs ps : List ℕ) (version count end : ℕ) (a : Ran) (e
 
   pub told-no-room : {k : ℕ} → a ≡ ran.NoRoom k → told no-entry-room (one k) (rs ∷ ps ∷ []) ≡ whole
   told-no-room = as-told
+
+-- ---- writing
+
+pub options-asked : (n : ℕ) → _≡_ {A = Options} (record { tree = eqb (n % 2) 1; cache = eqb (n / 2 % 2) 1; eoie = eqb (n / 4 % 2) 1; sparse = eqb (n / 8 % 2) 1; unhashed = eqb (n / 16 % 2) 1 }) (optionsFrom n)
+options-asked n =
+    let e : n % 2 ≡ n / 2 ^ 0 % 2 = omega arith in
+    (λ k. record { tree = eqb (e k) 1; cache = eqb (n / 2 % 2) 1; eoie = eqb (n / 4 % 2) 1; sparse = eqb (n / 8 % 2) 1; unhashed = eqb (n / 16 % 2) 1 })
+
+module _ (rs ps ns nm out₀ out : List ℕ) (options : ℕ) (o : Options) (a : Written) (e : write.outcome a out ≡ write.writeAll idSize sha1 depthLimit rs ps ns nm o out₀) (asked : o ≡ optionsFrom options) where
+  abbrev whole-write : Told
+  whole-write = tellWrite (write.writeAll idSize sha1 depthLimit rs ps ns nm (optionsFrom options) out₀)
+
+  as-written : {x : Written} → a ≡ x → tellWrite (write.outcome x out) ≡ whole-write
+  as-written q =
+      sym (ap (λ (x : Written). tellWrite (write.outcome x out)) q) ∙ ap tellWrite e
+      ∙ ap (λ (x : Options). tellWrite (write.writeAll idSize sha1 depthLimit rs ps ns nm x out₀)) asked
+
+  pub told-written : {version size : ℕ} → a ≡ written.Done version size → told 0 (two version size) (out ∷ []) ≡ whole-write
+  told-written = as-written
+
+  pub told-write-outside : {i : ℕ} → a ≡ written.PathOutside i → told path-outside (one i) (out ∷ []) ≡ whole-write
+  told-write-outside = as-written
+
+  pub told-not-proper : a ≡ written.NotProper → told not-proper (one 0) (out ∷ []) ≡ whole-write
+  told-not-proper = as-written
+
+  pub told-too-large : a ≡ written.TooLarge → told too-large (one 0) (out ∷ []) ≡ whole-write
+  told-too-large = as-written
+
+  pub told-short-output : {size : ℕ} → a ≡ written.ShortOutput size → told short-output (one size) (out ∷ []) ≡ whole-write
+  told-short-output = as-written
 
 -- ---- searching
 
@@ -169,4 +207,4 @@ module _ (ns : List ℕ) (i : ℕ) where
       q ∙ (λ k. take 20 part ++ drop-of-length-le d {i = 20} (omega arith) k) ∙ append-nil (take 20 part) ∙ take-all 20 part (omega arith) ∙ p ∙ sym (rw (lt-ltb i (nodesIn ns) small))
 
 pub ruleset laws =
-    (told-read, values-read, told-done, told-not-spelled, told-no-room, told-at, told-absent, told-no-stage, told-outside, told-sorted, told-path-outside, told-not-after, told-offset, told-no-offset, told-pairs, told-no-table, told-pair, told-no-pair, not-told, is-told, told-most, told-record, told-stat, told-node, no-id, id-long, id-copied)
+    (told-read, values-read, told-done, told-not-spelled, told-no-room, options-asked, told-written, told-write-outside, told-not-proper, told-too-large, told-short-output, told-at, told-absent, told-no-stage, told-outside, told-sorted, told-path-outside, told-not-after, told-offset, told-no-offset, told-pairs, told-no-table, told-pair, told-no-pair, not-told, is-told, told-most, told-record, told-stat, told-node, no-id, id-long, id-copied)

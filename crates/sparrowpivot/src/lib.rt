@@ -8,6 +8,7 @@ pub mod extensions;
 pub mod reading;
 pub mod searching;
 pub mod tables;
+pub mod writing;
 
 // The SHA-1 of the bytes, put into the twenty bytes lent.
 #[no_mangle]

@@ -179,7 +179,7 @@ module _ (ns nm : List ℕ) (p : ℕ) where
   unfolding after
   after-before x i pos h = let q : x ≡ 0 → ⊥ = λ e. omega arith in rw (ne-eqb x 0 q) at h
 
-  before-after : (x i : ℕ) → before ns nm x i ≡ true → after ns nm x i ≡ true
+  pub before-after : (x i : ℕ) → before ns nm x i ≡ true → after ns nm x i ≡ true
   unfolding after
   before-after x i h = by (eqb x 0)
     where

@@ -1,6 +1,5 @@
--- The modules of tree_write that contracts and proofs cite: the order of nodes, a tree's bytes, the children, and what a proper table is. Assumes nothing.
+-- The modules of tree_write that contracts and proofs cite: the order of nodes, a tree's bytes, the children and their runs. Assumes nothing.
 pub mod Order
 pub mod Tree
 pub mod Kids
-pub mod Proper
-pub mod Table
+pub mod Runs

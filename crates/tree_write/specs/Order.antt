@@ -11,6 +11,7 @@ use borrow.Author.Tests.{lt-ltb, le-ltb, ltb-true}
 use Rattle.laws.specs.Tests.{tri}
 use Rattle.laws.specs.Order.{Before, transitive, Comparison, below, equal, beyond, compared, Compares, is-below, is-equal, is-beyond, compares, before-below, compared-same}
 use Rattle.node.specs.Store.{nameAt}
+pub use Rattle.walk_order.specs.Child.{false-true}
 
 unfoldable pub byIndex : Comparison → ℕ → ℕ → Bool
 byIndex below i j = true
@@ -20,9 +21,6 @@ byIndex beyond i j = false
 -- node i comes before node j
 unfoldable pub before : List ℕ → List ℕ → ℕ → ℕ → Bool
 before ns nm i j = byIndex (compared (nameAt nm ns i) (nameAt nm ns j)) i j
-
-pub false-true : false ≡ true → ⊥
-false-true e = let z : _≡_ {A = ℕ} 0 1 = cc in omega arith
 
 equal-names : (a b : List ℕ) → a ≡ b → compared a b ≡ equal
 equal-names a b e = subst (λ (x : List ℕ). compared a x ≡ equal) e (compared-same a)

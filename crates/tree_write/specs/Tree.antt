@@ -71,10 +71,6 @@ unfoldable pub nodeBytes : ℕ → List ℕ → List ℕ → ℕ → ℕ → Lis
 nodeBytes id ns nm zero i = []
 nodeBytes id ns nm (suc d) i = headBytes id ns nm i ++ each (nodeBytes id ns nm d) (kids ns nm i (nodesIn ns) 0)
 
--- the deepest level
-abbrev pub depthLimit : ℕ
-depthLimit = 64
-
 abbrev pub treeBytes : ℕ → ℕ → List ℕ → List ℕ → List ℕ
 treeBytes id limit ns nm = nodeBytes id ns nm limit 0
 

@@ -1,19 +1,16 @@
 // The TREE extension, written from a lent node table: siblings in byte order of name. There is no heap, so the next child is the least one after the last, found
-// by a pass over the table.
+// among the heads of a few runs where the table is in walk order, and by a pass over the table elsewhere.
 ghost use mathlib.Core.Path.{_≡_};
 ghost use mathlib.Core.List.{[], _∷_};
 ghost use Prim.Native.Nat.{_+_, _-_, _≤_, _<_};
 ghost use lib.ListN.{length};
 ghost use Rattle.laws.specs.Put.{put};
 ghost use Rattle.sums.specs.Cap.{cap};
-ghost use Rattle.node.specs.Store.{countAt};
+ghost use Rattle.walk_order.specs.Walk.{walks};
 ghost use Rattle.tree_write.specs.Order.{before};
 ghost use Rattle.tree_write.specs.Tree.{countBytes, frontBytes, numberBytes, idBytes, headBytes, after, ahead, better, nextKid, nodeBytes, treeBytes, putFit};
 
-pub mod proper;
-
-// The deepest level that is written.
-const DEPTH_LIMIT: usize = 64;
+mod runs;
 
 // Writes src at `at`, and answers where it ends.
 fn put_bytes(src: &[u8], out: &mut [u8], at: usize) -> usize
@@ -201,8 +198,17 @@ fn next_kid(nodes: &[u8], names: &[u8], parent: usize, last: usize) -> usize
 }
 
 // Writes node me and, by calling itself, what is below it, at most so many levels deep.
-fn put_node(nodes: &[u8], names: &[u8], me: usize, out: &mut [u8], at: usize, depth: usize) -> usize
+fn put_node(
+    nodes: &[u8],
+    names: &[u8],
+    walk: bool,
+    me: usize,
+    out: &mut [u8],
+    at: usize,
+    depth: usize,
+) -> usize
     requires { ⌜ at + length (nodeBytes 20 (now nodes) (now names) depth me) ≤ length (now out) ⌝ }
+    requires { ⌜ walk ≡ walks 64 (now nodes) ⌝ }
     ensures { λ r. ⌜ r ≡ at + length (nodeBytes 20 (now (nodes .entry)) (now (names .entry)) depth me) ⌝ }
     ensures { λ _. ⌜ now (out .exit) ≡ put (now (out .entry)) at (nodeBytes 20 (now (nodes .entry)) (now (names .entry)) depth me) ⌝ }
 {
@@ -211,14 +217,18 @@ fn put_node(nodes: &[u8], names: &[u8], me: usize, out: &mut [u8], at: usize, de
     }
     let below = depth - 1;
     let mut pos = put_head(nodes, names, me, out, at);
+    let mut heads = [0usize; 64];
+    let runs = runs::begin(nodes, names, walk, me, &mut heads);
+    let used = runs.used;
     let mut last: usize = 0;
     let mut left = nodes.len() / node::NODE_SIZE;
     while 0 < left {
-        let kid = next_kid(nodes, names, me, last);
+        let kid = runs::next(nodes, names, me, last, runs, &heads);
         if kid == 0 {
             return pos;
         }
-        pos = put_node(nodes, names, kid, out, pos, below);
+        pos = put_node(nodes, names, walk, kid, out, pos, below);
+        runs::step(nodes, names, me, used, &mut heads, kid);
         last = kid;
         left -= 1;
     }
@@ -226,7 +236,8 @@ fn put_node(nodes: &[u8], names: &[u8], me: usize, out: &mut [u8], at: usize, de
 }
 
 // How many bytes node me and what is below it are written into.
-fn node_size(nodes: &[u8], names: &[u8], me: usize, depth: usize) -> usize
+fn node_size(nodes: &[u8], names: &[u8], walk: bool, me: usize, depth: usize) -> usize
+    requires { ⌜ walk ≡ walks 64 (now nodes) ⌝ }
     ensures { λ r. ⌜ r ≡ cap (length (nodeBytes 20 (now (nodes .entry)) (now (names .entry)) depth me)) ⌝ }
 {
     if depth == 0 {
@@ -234,15 +245,19 @@ fn node_size(nodes: &[u8], names: &[u8], me: usize, depth: usize) -> usize
     }
     let below = depth - 1;
     let mut size = head_size(nodes, names, me);
+    let mut heads = [0usize; 64];
+    let runs = runs::begin(nodes, names, walk, me, &mut heads);
+    let used = runs.used;
     let mut last: usize = 0;
     let mut left = nodes.len() / node::NODE_SIZE;
     while 0 < left {
-        let kid = next_kid(nodes, names, me, last);
+        let kid = runs::next(nodes, names, me, last, runs, &heads);
         if kid == 0 {
             return size;
         }
-        let one = node_size(nodes, names, kid, below);
+        let one = node_size(nodes, names, walk, kid, below);
         size = sums::plus(size, one);
+        runs::step(nodes, names, me, used, &mut heads, kid);
         last = kid;
         left -= 1;
     }
@@ -253,7 +268,8 @@ fn node_size(nodes: &[u8], names: &[u8], me: usize, depth: usize) -> usize
 pub fn tree_size(nodes: &[u8], names: &[u8]) -> usize
     ensures { λ r. ⌜ r ≡ cap (length (treeBytes 20 64 (now (nodes .entry)) (now (names .entry)))) ⌝ }
 {
-    node_size(nodes, names, 0, DEPTH_LIMIT)
+    let walk = walk_order::in_walk_order(nodes);
+    node_size(nodes, names, walk, 0, format::DEPTH_LIMIT)
 }
 
 // Writes the tree of a table at `at`; nothing where it does not fit.
@@ -264,9 +280,10 @@ pub fn put_tree(nodes: &[u8], names: &[u8], out: &mut [u8], at: usize)
         return;
     }
     let room = out.len() - at;
-    let size = tree_size(nodes, names);
+    let walk = walk_order::in_walk_order(nodes);
+    let size = node_size(nodes, names, walk, 0, format::DEPTH_LIMIT);
     if room < size {
         return;
     }
-    put_node(nodes, names, 0, out, at, DEPTH_LIMIT);
+    put_node(nodes, names, walk, 0, out, at, format::DEPTH_LIMIT);
 }

@@ -435,8 +435,9 @@ module _ (has : Bool) (offset : ℕ) (toc : List ℕ) where
       pub eoie-offset-room : b + 4 ≤ length d₁
       eoie-offset-room = omega (arith, length-eoie has offset toc h, same₁)
 
-      pub eoie-hash-room : (d₂ : List ℕ) → d₂ ≡ paste d₁ b (bytesOf 4 offset) 4 → b + 4 + 20 ≤ length d₂
-      eoie-hash-room d₂ e₂ = omega (arith, length-eoie has offset toc h, same₁, ap length e₂, length-paste d₁ b (bytesOf 4 offset) 4 eoie-offset-room (omega (arith, length-bytes 4 offset)))
+      -- whatever number was put there
+      pub eoie-hash-room : (d₂ : List ℕ) (x : ℕ) → d₂ ≡ paste d₁ b (bytesOf 4 x) 4 → b + 4 + 20 ≤ length d₂
+      eoie-hash-room d₂ x e₂ = omega (arith, length-eoie has offset toc h, same₁, ap length e₂, length-paste d₁ b (bytesOf 4 x) 4 eoie-offset-room (omega (arith, length-bytes 4 x)))
 
   pub eoie-hash : (hash : List ℕ) → hash ≡ sha1 toc → 0 + 20 ≤ length hash
   eoie-hash hash e = omega (arith, ap length e, length-sha1 toc)
@@ -479,6 +480,6 @@ module _ (skips : Bool) (d d₁ : List ℕ) (k : ℕ) where
   unfolding trailerOf
   trailer-hash h hash eh e = rw h (e ∙ ap (λ (l : List ℕ). paste d k l 20) eh ∙ paste-put d (sha1 (take k d)) k 20 (sym (length-sha1 (take k d))))
 
-pub ruleset parts = (head-put, sparse-room, sparse-next, sparse-put, sparse-none, sparse-same, tree-room, tree-next, tree-put, tree-none, tree-same, contents-first, contents-second, contents-inside, contents-hashed, eoie-head-room, eoie-offset-room, eoie-hash-room, eoie-hash, eoie-next, eoie-put, eoie-none, eoie-same, trailer-zeros, trailer-hash)
+pub ruleset parts = (head-put, sparse-room, sparse-next, sparse-put, sparse-none, sparse-same, tree-room, tree-next, tree-put, tree-none, tree-same, contents-first, contents-second, contents-inside, contents-hashed, eoie-head-room, eoie-offset-room, eoie-hash, eoie-next, eoie-put, eoie-none, eoie-same, trailer-zeros, trailer-hash)
 
 pub ruleset laws = (stated-short, stated-long, fixed-wide, fixed-plain, version-three, version-same, fault-gone, fault-none, fault-outside, kept-gone, kept-one, size-gone, gone-next, gone-put, size-kept, kept-room, kept-next, kept-put, head-is, head-fits, entry-put, fill-start, fill-room, fill-more, fill-end, fill-place, sizing-start, sizing-end, sizing-fault, sizing-more)

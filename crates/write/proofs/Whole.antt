@@ -13,7 +13,7 @@ use Rattle.wire.specs.BigEndian.{bytesOf, length-bytes}
 use Rattle.sums.specs.Cap.{cap, cap-fits, cap-cap, cap-cap-right}
 use Rattle.sha1.specs.Sha1.{sha1}
 use Rattle.tree_write.specs.Tree.{treeBytes, putFit}
-use Rattle.tree_write.specs.Proper.{isProper}
+use Rattle.proper.specs.Proper.{isProper}
 use Rattle.write.specs.declared.Options.{Options}
 use Rattle.write.specs.Entries.{tableBytes}
 use Rattle.write.proofs.Laws.{eoie-none}

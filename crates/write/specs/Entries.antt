@@ -8,6 +8,7 @@ use lib.ListN.{length, take, drop, replicate}
 use Rattle.laws.specs.Pick.{pick}
 use Rattle.wire.specs.BigEndian.{bytesOf}
 use Rattle.sums.specs.Cap.{cap}
+use Rattle.format.specs.Format.{headerSize, longPath}
 use Rattle.entry.specs.Flags.{bit, extended, removed, toStorage, extendedToStorage}
 use Rattle.entry.specs.Layout.{recordSize}
 use Rattle.entry.specs.Record.{recordsIn, flagsAt, liesInside, pathAt}
@@ -23,10 +24,6 @@ isGone rs i = bit removed (flagsAt rs i)
 -- whether its path does not lie in the store: refusal 12
 unfoldable pub faultOf : List ℕ → List ℕ → List ℕ → ℕ → Bool
 faultOf rs ps before i = pick (isGone rs i) false (pick (liesInside rs ps i) false true)
-
--- a path of so many bytes or more states this length
-abbrev pub longPath : ℕ
-longPath = 4095
 
 unfoldable pub stated : ℕ → ℕ
 stated n = pick (ltb n longPath) n longPath
@@ -107,10 +104,6 @@ sizeRun id rs ps zero i version count size = Of version count size
 sizeRun id rs ps (suc n) i version count size =
     pick (faultOf rs ps (beforeAt rs ps i) i) (Outside i)
     (sizeRun id rs ps n (i + 1) (versionWith (flagsAt rs i) version) (count + keptOf rs i) (cap (size + length (recordBytes id rs ps (beforeAt rs ps i) i))))
-
--- the whole table behind a header of 12 bytes
-abbrev pub headerSize : ℕ
-headerSize = 12
 
 abbrev pub sizeTable : ℕ → List ℕ → List ℕ → Sized
 sizeTable id rs ps = sizeRun id rs ps (recordsIn rs) 0 2 0 headerSize

@@ -11,12 +11,13 @@ use Rattle.wire.specs.BigEndian.{bytesOf}
 use Rattle.sums.specs.Cap.{cap}
 use Rattle.entry.specs.Record.{recordsIn}
 use Rattle.refusal.specs.Refusal.{path-outside, short-output, too-large, not-proper}
+use Rattle.format.specs.Format.{headerSize}
 use Rattle.tree_write.specs.Tree.{treeBytes}
-use Rattle.tree_write.specs.Proper.{isProper}
+use Rattle.proper.specs.Proper.{isProper}
 use Rattle.write.specs.declared.Options.{Options}
 use Rattle.write.specs.declared.Answer.{Answer}
 use Rattle.write.specs.declared.Answer.the-variants.{Done, PathOutside, NotProper, TooLarge, ShortOutput}
-use Rattle.write.specs.Entries.{firstFault, onFirst, headerSize, countOf, anyExtended, tableBytes}
+use Rattle.write.specs.Entries.{firstFault, onFirst, countOf, anyExtended, tableBytes}
 
 -- ---- the parts
 

@@ -1,21 +1,20 @@
 -- How long what is written is, and what the sizing pass comes to: the first fault, or the version, the count and the length of header and entries. Over the id's
 -- length and over all tables. Assumes nothing.
-use Prim.Native.Nat.{ℕ, zero, suc, _+_, _-_, _*_, _/_, _%_, _≤_, _<_}
+use Prim.Native.Nat.{ℕ, zero, suc, _+_, _-_, _*_, _≤_, _<_}
 use mathlib.Core.Bool.{Bool, true, false}
 use mathlib.Core.Path.{_≡_, refl, sym, ap, _∙_}
-use mathlib.Core.List.{List, [], _∷_, _++_}
+use mathlib.Core.List.{List, [], _++_}
 use native.Mathlib.Omega.{arith}
-use lib.ListN.{length, take, drop, replicate, length-append, length-replicate}
+use lib.ListN.{length, replicate, length-append, length-replicate}
 use Rattle.laws.specs.Pick.{pick}
 use Rattle.laws.specs.Lists.{length-part}
 use Rattle.wire.specs.BigEndian.{bytesOf, length-bytes}
 use Rattle.sums.specs.Cap.{largest, cap, cap-fits, cap-small, cap-cap}
-use Rattle.entry.specs.Flags.{bit, extended, removed, toStorage, extendedToStorage}
-use Rattle.entry.specs.Layout.{recordSize}
-use Rattle.entry.specs.Record.{recordsIn, flagsAt, pathAt}
+use Rattle.entry.specs.Flags.{bit, extended, toStorage, extendedToStorage}
+use Rattle.entry.specs.Record.{recordsIn, flagsAt}
 use Rattle.write.specs.declared.entries.Sized.{Sized}
 use Rattle.write.specs.declared.entries.Sized.the-variants.{Of, Outside}
-use Rattle.write.specs.Entries.{isGone, faultOf, stated, fixedOf, frontAt, flagBytes, padOf, wholeOf, entryOf, recordBytes, beforeAt, entriesBytes, keptOf, countOf, anyExtended, versionWith, First, found, nowhere, firstFault, onFirst, sizeRun}
+use Rattle.write.specs.Entries.{faultOf, stated, fixedOf, frontAt, flagBytes, padOf, wholeOf, entryOf, recordBytes, beforeAt, entriesBytes, keptOf, countOf, anyExtended, versionWith, found, firstFault, onFirst, sizeRun}
 
 -- ---- an entry's length
 

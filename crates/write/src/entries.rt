@@ -2,25 +2,12 @@
 ghost use mathlib.Core.Path.{_≡_};
 ghost use Prim.Native.Nat.{_+_, _*_, _-_, _/_, _≤_, _<_};
 ghost use mathlib.Core.List.{_++_};
-ghost use lib.ListN.{length, take};
+ghost use lib.ListN.{length};
 ghost use Rattle.laws.specs.Put.{put};
 ghost use Rattle.wire.specs.BigEndian.{bytesOf};
 ghost use Rattle.entry.specs.Flags.{toStorage, extendedToStorage};
-ghost use Rattle.entry.specs.Record.{recordsIn, flagsAt, pathAt};
+ghost use Rattle.entry.specs.Record.{recordsIn, flagsAt};
 ghost use Rattle.write.specs.Entries.{faultOf, stated, fixedOf, frontAt, wholeOf, entryOf, recordBytes, beforeAt, tableBytes, keptOf, versionWith, sizeTable};
-
-// What a path of so many bytes or more states as its length.
-const LONG_PATH: usize = 4095;
-
-// The bytes before an entry's path, and with the 16 bits behind EXTENDED.
-const FIXED: usize = 62;
-
-const FIXED_EXTENDED: usize = 64;
-
-// The fields and the id, which stand in a record as in an entry.
-const FRONT: usize = 60;
-
-const HEADER: usize = 12;
 
 // What sizing comes to: the version, how many records are written, and into how many bytes with the header; or the first record whose path is not in the store.
 pub enum Sized {
@@ -38,10 +25,10 @@ pub enum Sized {
 fn stated_length(len: usize) -> u16
     ensures { λ r. ⌜ r ≡ stated len ⌝ }
 {
-    if len < LONG_PATH {
+    if len < format::LONG_PATH {
         len as u16
     } else {
-        LONG_PATH as u16
+        format::LONG_PATH as u16
     }
 }
 
@@ -49,9 +36,9 @@ fn fixed_size(flags: u32) -> usize
     ensures { λ r. ⌜ r ≡ fixedOf 20 flags ⌝ }
 {
     if entry::flags::is_extended(flags) {
-        return FIXED_EXTENDED;
+        return format::FIXED_EXTENDED_SIZE;
     }
-    FIXED
+    format::FIXED_SIZE
 }
 
 // Whether record i is to be written and its path does not lie in the store.
@@ -114,7 +101,7 @@ pub fn size_entries(records: &[u8], paths: &[u8]) -> Sized
     let n = entry::records_in(records);
     let mut version: u32 = 2;
     let mut count: usize = 0;
-    let mut size = HEADER;
+    let mut size = format::HEADER_SIZE;
     let mut i: usize = 0;
     while i < n {
         if record_fault(records, paths, i) {
@@ -144,9 +131,9 @@ fn head_of(records: &[u8], i: usize, flags: u32, len: usize) -> [u8; 64]
     let more = entry::flags::extended_to_storage(flags);
     let base = i * entry::RECORD_SIZE;
     let mut head = [0u8; 64];
-    slices::copy_bytes(records, base, FRONT, &mut head, 0);
-    wire::put16(&mut head, FRONT, word);
-    wire::put16(&mut head, FIXED, more);
+    slices::copy_bytes(records, base, format::FLAGS_AT, &mut head, 0);
+    wire::put16(&mut head, format::FLAGS_AT, word);
+    wire::put16(&mut head, format::FIXED_SIZE, more);
     head
 }
 

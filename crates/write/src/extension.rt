@@ -1,16 +1,10 @@
 // What follows the entries: the extensions and the trailer.
 ghost use mathlib.Core.Path.{_≡_};
-ghost use Prim.Native.Nat.{_+_, _≤_, _<_, _^_};
+ghost use Prim.Native.Nat.{_+_, _≤_};
 ghost use lib.ListN.{length, take};
 ghost use Rattle.laws.specs.Put.{put};
 ghost use Rattle.sha1.specs.Sha1.{sha1};
 ghost use Rattle.write.specs.File.{extensionHead, treeHead, sparsePart, contents, eoiePart, trailerOf};
-
-// The bytes of a hash of SHA-1.
-const ID: usize = 20;
-
-// An extension's signature and size.
-const HEAD: usize = 8;
 
 // What EOIE holds: an offset and a hash.
 const EOIE_SIZE: u32 = 24;
@@ -23,7 +17,7 @@ pub fn put_head(signature: [u8; 4], size: u32, out: &mut [u8], at: usize) -> usi
 {
     slices::copy_bytes(&signature, 0, 4, out, at);
     wire::put32(out, at + 4, size);
-    at + HEAD
+    at + format::EXTENSION_HEADER_SIZE
 }
 
 // Writes `sdir` if the index is sparse.
@@ -76,8 +70,8 @@ pub fn put_eoie(
         let body = put_head(*b"EOIE", EOIE_SIZE, out, at);
         let last = body + 4;
         wire::put32(out, body, offset);
-        slices::copy_bytes(&hash, 0, ID, out, last);
-        return last + ID;
+        slices::copy_bytes(&hash, 0, format::ID_SIZE, out, last);
+        return last + format::ID_SIZE;
     }
     at
 }
@@ -88,9 +82,9 @@ pub fn put_trailer(skips: bool, out: &mut [u8], at: usize)
     ensures { λ _. ⌜ now (out .exit) ≡ put (now (out .entry)) at (trailerOf 20 sha1 skips (take at (now (out .entry)))) ⌝ }
 {
     if skips {
-        slices::clear(out, at, ID);
+        slices::clear(out, at, format::ID_SIZE);
         return;
     }
     let hash = sha1::sha1_of(&out[..at]);
-    slices::copy_bytes(&hash, 0, ID, out, at);
+    slices::copy_bytes(&hash, 0, format::ID_SIZE, out, at);
 }

@@ -15,10 +15,6 @@ mod extension;
 // The most records, and the most bytes before EOIE's place.
 const MOST: usize = 4294967295;
 
-const HEADER: usize = 12;
-
-const TRAILER: usize = 20;
-
 // What is to be written.
 pub struct Options {
     // there is a tree
@@ -71,7 +67,7 @@ fn tree_fits(nodes: &[u8], names: &[u8], writes: bool) -> bool
     ensures { λ r. ⌜ r ≡ treeFits 64 (now (nodes .entry)) (now (names .entry)) writes ⌝ }
 {
     if writes {
-        return tree_write::proper::is_proper(nodes, names);
+        return proper::is_proper(nodes, names);
     }
     true
 }
@@ -116,7 +112,7 @@ fn fill_front(records: &[u8], paths: &[u8], version: u32, count: u32, out: &mut 
     ensures { λ r. ⌜ (r ≡ offsetOf 20 (now (records .entry)) (now (paths .entry))) × (now (out .exit) ≡ put (now (out .entry)) 0 (frontOf 20 (now (records .entry)) (now (paths .entry)) version count)) ⌝ }
 {
     put_header(version, count, out);
-    entries::put_entries(records, paths, out, HEADER)
+    entries::put_entries(records, paths, out, format::HEADER_SIZE)
 }
 
 // Writes TREE and `sdir` at `at`, and answers where they end.
@@ -199,7 +195,7 @@ fn end_size(has: bool) -> usize
     if has {
         return 52;
     }
-    TRAILER
+    format::ID_SIZE
 }
 
 // How many bytes stand before EOIE's place, behind header and entries of so many bytes.

@@ -1,6 +1,8 @@
-// Pages of the writer: 01's TREE of 32 bytes, read and written back, and the differences D10 to D13 from the Rust.
+// Pages of the writer: 01's TREE of 32 bytes, read and written back, and the differences D10 to D13 from the Rust; tests/pages has what the Rust makes of the same
+// tables.
 ghost use mathlib.Core.Path.{_≡_};
 ghost use lib.ListN.{length};
+use file::Answer as Got;
 use libc::STDOUT_FILENO;
 use node::Node;
 use write::Answer;
@@ -102,8 +104,9 @@ fn tree_page() {
     show_line(&out);
 }
 
-// A table of no records with the tree of a node table, and what was written.
-fn write_tree(nodes: &[u8]) {
+// The page's name, and a table of no records with the tree of a node table: the answer, and what the output holds.
+fn write_tree(page: &[u8], nodes: &[u8]) {
+    io::write_all(STDOUT_FILENO, page);
     let names = NAMES;
     let none = [0u8; 0];
     let mut out = [255u8; 128];
@@ -118,7 +121,7 @@ fn order_page() {
     put(&mut nodes, 0, 0, 0, node::MINUS_ONE, 2, node::MINUS_ONE);
     put(&mut nodes, 1, 1, 2, node::MINUS_ONE, 0, 0);
     put(&mut nodes, 2, 0, 1, 3, 0, 0);
-    write_tree(&nodes);
+    write_tree(b"D10, children b, a: ", &nodes);
 }
 
 // D11: a count of 2^32 - 1, two children "a", a name with NUL; each is refused.
@@ -127,12 +130,12 @@ fn improper_page() {
     put(&mut nodes, 0, 0, 0, 4294967295, 2, node::MINUS_ONE);
     put(&mut nodes, 1, 0, 1, node::MINUS_ONE, 0, 0);
     put(&mut nodes, 2, 1, 2, node::MINUS_ONE, 0, 0);
-    write_tree(&nodes);
+    write_tree(b"D11, count 2^32 - 1: ", &nodes);
     put(&mut nodes, 0, 0, 0, 4, 2, node::MINUS_ONE);
     put(&mut nodes, 2, 0, 1, node::MINUS_ONE, 0, 0);
-    write_tree(&nodes);
+    write_tree(b"D11, two children a: ", &nodes);
     put(&mut nodes, 2, 19, 22, node::MINUS_ONE, 0, 0);
-    write_tree(&nodes);
+    write_tree(b"D11, NUL in a name: ", &nodes);
 }
 
 // The bytes of an entry without its path: a zero id, mode 100644.
@@ -150,15 +153,43 @@ fn room() -> [u8; 8352]
     [255; 8352]
 }
 
-// Two long paths: the file, of which the second entry's head is shown, and an output that is too short.
+// The version, and how many records and path bytes are read back.
+fn read_back(file: &[u8]) {
+    let mut records = [0u8; 192];
+    let mut paths = [0u8; 8191];
+    let mut nodes = [0u8; 0];
+    let a = file::read(file, &mut records, &mut paths, &mut nodes);
+    if let Got::Read {
+        version,
+        sparse: _,
+        tree: _,
+        records: n,
+        path_bytes,
+        nodes: _,
+    } = a {
+        io::write_all(STDOUT_FILENO, b"read back");
+        show_number(version as u64);
+        show_number(n as u64);
+        show_number(path_bytes as u64);
+        io::write_all(STDOUT_FILENO, b"\n");
+    } else {
+        io::write_all(STDOUT_FILENO, b"not read back\n");
+    }
+}
+
+// Two long paths: the file, of which the SHA-1 and the second entry's head are shown, and an output that is too short.
 fn write_long(records: &[u8], paths: &[u8]) {
     let none = [0u8; 0];
     let mut out = room();
     let a = write::write_to(records, paths, &none, &none, only_tree(false), &mut out);
+    io::write_all(STDOUT_FILENO, b"D12, D13: ");
     show_answer(a);
-    show_line(&out[4168..4236]);
+    io::write_all(STDOUT_FILENO, &show::hex_line(sha1::sha1_of(&out)));
+    show_line(&out[4172..4234]);
+    read_back(&out);
     let mut short = [255u8; 8];
     let b = write::write_to(records, paths, &none, &none, only_tree(false), &mut short);
+    io::write_all(STDOUT_FILENO, b"an output of 8 bytes: ");
     show_answer(b);
     show_line(&short);
 }

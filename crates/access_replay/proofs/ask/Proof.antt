@@ -31,6 +31,21 @@ returns-2 c = search needs
 byte-at-requires-2 : tie.Need-byte-at-requires-2
 byte-at-requires-2 c κs = search needs
 
+verify-entries-requires-2 : tie.Need-verify-entries-requires-2
+verify-entries-requires-2 c κs = search needs
+
+show-verified-requires-2 : tie.Need-show-verified-requires-2
+show-verified-requires-2 c κs = search needs
+
+ask-each-requires : tie.Need-ask-each-requires
+ask-each-requires c κs = search needs
+
+returns-3 : tie.Need-returns-3
+returns-3 c = search needs
+
+byte-at-requires-3 : tie.Need-byte-at-requires-3
+byte-at-requires-3 c κs = search needs
+
 cast-stage : tie.Need-cast-stage
 cast-stage c = search needs
 
@@ -61,11 +76,11 @@ lookup-requires-2 c κs = search needs
 show-found-requires-2 : tie.Need-show-found-requires-2
 show-found-requires-2 c κs = search needs
 
-returns-3 : tie.Need-returns-3
-returns-3 c = search needs
-
 returns-4 : tie.Need-returns-4
 returns-4 c = search needs
+
+returns-5 : tie.Need-returns-5
+returns-5 c = search needs
 
 pub ask-spec : {M : Type 1} → statement M
 ask-spec =
@@ -79,6 +94,11 @@ ask-spec =
     show-verified-requires
     returns-2
     byte-at-requires-2
+    verify-entries-requires-2
+    show-verified-requires-2
+    ask-each-requires
+    returns-3
+    byte-at-requires-3
     cast-stage
     add-from
     sub-lookup
@@ -89,5 +109,5 @@ ask-spec =
     slice-aggregate-lookup
     lookup-requires-2
     show-found-requires-2
-    returns-3
-    returns-4)
+    returns-4
+    returns-5)

@@ -4,7 +4,7 @@ use Rattle.write.proofs.tree_fits.Statement.{statement}
 use Rattle.write.proofs.tree_fits.Tie as tie
 use Rattle.write.proofs.tree_fits.Reads as reads
 use Rattle.write.proofs.tree_fits.Lts as lts
-use Rattle.tree_write.proofs.proper.is_proper.Reads as is-proper-reads
+use Rattle.proper.proofs.is_proper.Reads as is-proper-reads
 
 is-proper-requires : tie.Need-is-proper-requires
 is-proper-requires c κs = search (whole, needs)

@@ -5,53 +5,45 @@ use borrow.Author.Needs.{needs}
 use Rattle.access.proofs.order.compare.Statement.{statement}
 use Rattle.access.proofs.order.compare.Tie as tie
 
-agree-eights-requires : tie.Need-agree-eights-requires
-agree-eights-requires c κs = search needs
+pass-eights-requires : tie.Need-pass-eights-requires
+pass-eights-requires c κs = search (laws, needs)
 
-sub-if1 : tie.Need-sub-if1
-sub-if1 c = search needs
+enum-known-passed : tie.Need-enum-known-passed
+enum-known-passed c = search (laws, needs)
 
-compare-from-requires : tie.Need-compare-from-requires
-compare-from-requires c κs = search needs
+eight-at-requires : tie.Need-eight-at-requires
+eight-at-requires c κs = search (laws, needs)
+
+eight-at-requires-2 : tie.Need-eight-at-requires-2
+eight-at-requires-2 c κs = search (laws, needs)
 
 returns : tie.Need-returns
-returns c = search (laws, needs)
+returns c =
+    numbers-less _ _ _ _ (c .before .before .before .before .before .before .pass-eights .ensures) (c .before .before .before .before .passed .given .1) _ _ (c .before .before .eight-at .ensures) (c .before .eight-at2 .ensures) (λ i. omega (arith, c .before .before .before .before .before .before .before .before .shared-slice-known .given i)) (λ i. omega (arith, c .before .before .before .before .before .before .before .shared-slice-known2 .given i)) (c .if1 .taken)
 
-sub-if2 : tie.Need-sub-if2
-sub-if2 c = search needs
+enum-known-passed-2 : tie.Need-enum-known-passed-2
+enum-known-passed-2 c = search (laws, needs)
 
-compare-from-requires-2 : tie.Need-compare-from-requires-2
-compare-from-requires-2 c κs = search needs
+compare-from-requires : tie.Need-compare-from-requires
+compare-from-requires c κs = search (laws, needs)
 
 returns-2 : tie.Need-returns-2
-returns-2 c = search (laws, needs)
-
-be64-requires : tie.Need-be64-requires
-be64-requires c κs = search needs
-
-be64-requires-2 : tie.Need-be64-requires-2
-be64-requires-2 c κs = search needs
+returns-2 c =
+    numbers-greater _ _ _ _ (c .before .before .before .before .before .before .pass-eights .ensures) (c .before .before .before .before .passed .given .1) _ _ (c .before .before .eight-at .ensures) (c .before .eight-at2 .ensures) (λ i. omega (arith, c .before .before .before .before .before .before .before .before .shared-slice-known .given i)) (λ i. omega (arith, c .before .before .before .before .before .before .before .shared-slice-known2 .given i)) (c .if1 .left)
 
 returns-3 : tie.Need-returns-3
-returns-3 c =
-    numbers-less _ _ _ (c .before .before .before .before .before .agree-eights .ensures) (c .before .before .before .before .if1 .left) (c .before .before .before .if2 .left) _ _ (c .before .before .be64 .ensures) (c .before .be642 .ensures) (λ j. omega (arith, c .before .before .before .before .before .before .before .shared-slice-known .given j)) (λ j. omega (arith, c .before .before .before .before .before .before .shared-slice-known2 .given j)) (c .if3 .taken)
-
-returns-4 : tie.Need-returns-4
-returns-4 c =
-    numbers-greater _ _ _ (c .before .before .before .before .before .agree-eights .ensures) (c .before .before .before .before .if1 .left) (c .before .before .before .if2 .left) _ _ (c .before .before .be64 .ensures) (c .before .be642 .ensures) (λ j. omega (arith, c .before .before .before .before .before .before .before .shared-slice-known .given j)) (λ j. omega (arith, c .before .before .before .before .before .before .shared-slice-known2 .given j)) (c .if3 .left)
+returns-3 c = search (laws, needs)
 
 pub compare-spec : {M : Type 1} → statement M
 compare-spec =
     tie.close
     (tie.spec
-    agree-eights-requires
-    sub-if1
-    compare-from-requires
+    pass-eights-requires
+    enum-known-passed
+    eight-at-requires
+    eight-at-requires-2
     returns
-    sub-if2
-    compare-from-requires-2
+    enum-known-passed-2
+    compare-from-requires
     returns-2
-    be64-requires
-    be64-requires-2
-    returns-3
-    returns-4)
+    returns-3)

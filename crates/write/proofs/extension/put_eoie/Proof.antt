@@ -25,7 +25,12 @@ slice-aggregate-copy-bytes : tie.Need-slice-aggregate-copy-bytes
 slice-aggregate-copy-bytes c = search (parts, needs)
 
 copy-bytes-requires : tie.Need-copy-bytes-requires
-copy-bytes-requires c κs = (search (eoie-hash, needs), search (eoie-hash-room, needs))
+copy-bytes-requires c κs =
+    let room = c .before .before .before .before .before .before .before .before .before .before .before .before .before .before .before .pre in
+    let there = c .before .before .before .before .before .before .before .before .before .before .before .before .before .if1 .taken in
+    let head = c .before .before .before .before .before .before .before .before .put-head .ensures in
+    let number = c .before .before .before .before .put32 .ensures in
+    (search (eoie-hash, needs), eoie-hash-room _ _ _ there _ _ room _ (head .0) _ (head .1) _ _ number)
 
 add-result : tie.Need-add-result
 add-result c = search (parts, needs)

@@ -1,0 +1,164 @@
+-- THE DEMANDS, of any reader, writer, lookup and digest on lists of bytes, in the words of docs/PROMISES.md. No definition of ours stands for the one that is tried: of the reader only its
+-- answers and outcome are named, of the writer its options, answers and outcome, of lookup its answers. Assumes nothing.
+use Prim.Native.Nat.{ℕ, _^_, _≤_, _<_}
+use mathlib.Core.Path.{_≡_}
+use mathlib.Core.Bool.{true}
+use mathlib.Core.List.{List, [], _∷_, flatten}
+use mathlib.Core.Logic.{_↔_}
+use mathlib.Core.Option.{some}
+use lib.ListN.{length, take, getElem?}
+use Rattle.laws.specs.Pick.{pick}
+use Rattle.wire.specs.Places.{fileAt}
+use Rattle.format.specs.Format.{idSize}
+use Rattle.sha1.specs.Sha1.{sha1}
+use Rattle.entry.specs.Record.{recordsIn}
+use Rattle.node.specs.Store.{nodesIn}
+use Rattle.extension.specs.EndOfIndexEntry.{offsetIn}
+use Rattle.extension.specs.declared.end_of_index_entry.Told.the-variants.{Offset}
+use Rattle.access.specs.Lookup.{highestStage}
+use Rattle.access.specs.Sorted.{StrictlySorted}
+use Rattle.access.specs.Finds.{Has}
+use Rattle.access.specs.Steps.{lookupSteps}
+use Rattle.access.specs.declared.Found.{Found}
+use Rattle.access.specs.declared.Found.the-variants.{At, Absent}
+use Rattle.grammar.specs.File.{Index, File, versionOf, countOf, space}
+use Rattle.file.specs.Read as reading
+use Rattle.file.specs.declared.Answer.the-variants.{Read, NotSpelled}
+use Rattle.write.specs.File as writing
+use Rattle.write.specs.declared.Options.{Options}
+use Rattle.write.specs.declared.Answer.the-variants.{Done}
+use Rattle.claims_entries.specs.Rendering.{pathsBytes}
+use Rattle.claims_entries.specs.Said.{filled, StopsAt, RoomFor}
+use Rattle.claims_tree.specs.Rendering.{treeBytes}
+use Rattle.claims.specs.Premises.{Slices}
+use Rattle.claims.specs.Said.{Opened, holding}
+use Rattle.claims.specs.Claims.{TreeFits, Renders, IsRead}
+use Rattle.claims_write.specs.Meaning.{keptOf, meaningsOf, WritableTable, SameEntry}
+use Rattle.claims_write.specs.Spelled.{indexOf}
+use Rattle.claims_write.specs.Trees.{treeWritten}
+use Rattle.claims_write.specs.Claims.{Roomy}
+
+-- ---- what is tried
+
+-- of a file, records, paths and nodes: the answer, and what the three stores hold
+abbrev pub Reader : Type 0
+Reader = List ℕ → List ℕ → List ℕ → List ℕ → reading.Outcome
+
+-- of records, paths, nodes, names, what is asked for and the output: the answer, and what the output holds
+abbrev pub Writer : Type 0
+Writer = List ℕ → List ℕ → List ℕ → List ℕ → Options → List ℕ → writing.Outcome
+
+-- of records, paths, a path and a stage
+abbrev pub Lookup : Type 0
+Lookup = List ℕ → List ℕ → List ℕ → ℕ → Found
+
+-- a digest that is fed piece by piece, with states of any kind
+pub record Digester : Type 1 where
+  pub State : Type 0
+  pub new : State
+  pub feed : State → List ℕ → State
+  pub finish : State → List ℕ
+
+-- ---- DEMAND 3
+
+-- a file with a good header and trailer, and room for the entries before the first not spelled
+pub record Readable (s rs ps ns : List ℕ) : Type 0 where
+  pub slices : Slices s ps ns
+  pub opened : Opened s
+  pub room : RoomFor idSize (versionOf s) (space idSize s) (countOf s) rs ps
+
+pub record Demand3 (read : Reader) : Type 0 where
+  -- the reader accepts the file exactly if the grammar spells it
+  pub accepted-exactly-if-spelled : (s rs ps ns : List ℕ) → Readable s rs ps ns → TreeFits s ns → IsRead (read s rs ps ns .answer) ↔ ((m : Index) × File idSize s m)
+  -- the grammar spells at most one meaning
+  pub one-meaning : (s : List ℕ) (m o : Index) → File idSize s m → File idSize s o → m ≡ o
+  -- answer and all three stores are exactly the rendering of that meaning
+  pub stores-are-the-meaning : (s rs ps ns : List ℕ) → Readable s rs ps ns → TreeFits s ns → (m : Index) → File idSize s m → Renders s rs ps ns m (read s rs ps ns)
+  -- refusal 5 names k exactly when the first k entries can be spelled and the next, within the count, cannot
+  pub refusal-5-exactly : (s rs ps ns : List ℕ) → Readable s rs ps ns → (k : ℕ) → (read s rs ps ns .answer ≡ NotSpelled k) ↔ StopsAt idSize (versionOf s) (space idSize s) (countOf s) k
+  -- and then the stores hold the entries before it, and nothing else is touched
+  pub refusal-5-stores : (s rs ps ns : List ℕ) → Readable s rs ps ns → (k : ℕ) (x : StopsAt idSize (versionOf s) (space idSize s) (countOf s) k) → read s rs ps ns ≡ holding s rs ps ns (x .1 .0) (NotSpelled k)
+
+-- ---- DEMAND 2: read-back
+
+-- something to write, what the writer answered for it, and the stores lent to the reader
+pub record Case : Type 0 where
+  pub records : List ℕ
+  pub paths : List ℕ
+  pub nodes : List ℕ
+  pub names : List ℕ
+  pub options : Options
+  pub out : List ℕ
+  pub version : ℕ
+  pub size : ℕ
+  pub records′ : List ℕ
+  pub paths′ : List ℕ
+  pub nodes′ : List ℕ
+
+abbrev pub written : Writer → Case → writing.Outcome
+written write c = write (c .records) (c .paths) (c .nodes) (c .names) (c .options) (c .out)
+
+-- the file: as many of the output's first bytes as the writer says
+abbrev pub fileIn : Writer → Case → List ℕ
+fileIn write c = take (c .size) (written write c .out)
+
+abbrev pub readAgain : Writer → Reader → Case → reading.Outcome
+readAgain write read c = read (fileIn write c) (c .records′) (c .paths′) (c .nodes′)
+
+abbrev pub meant : Case → Index
+meant c = indexOf (c .records) (c .paths) (c .nodes) (c .names) (c .options)
+
+abbrev pub treeIn : Case → List ℕ
+treeIn c = treeBytes (treeWritten (c .records) (c .paths) (c .nodes) (c .names))
+
+-- the writer says that it is done, the table loses nothing by being written, and the stores are large enough
+pub record Done? (write : Writer) (c : Case) : Type 0 where
+  pub done : written write c .answer ≡ Done (c .version) (c .size)
+  pub few : length (c .nodes) < 2 ^ 64
+  pub table : WritableTable (c .records) (c .paths)
+  pub slices : Slices (fileIn write c) (c .paths′) (c .nodes′)
+  pub room : Roomy (c .records) (c .paths) (c .nodes) (c .options) (c .records′) (c .paths′) (c .nodes′)
+
+pub record ReadsBack (write : Writer) (read : Reader) : Type 0 where
+  -- the reader accepts what was written and answers its version, and as many records, path bytes and nodes as were written
+  pub reads-back : (c : Case) → Done? write c
+      → readAgain write read c .answer ≡ Read (c .version) (meant c .sparse) (writing.writesTree (c .options)) (length (keptOf (c .records))) (length (pathsBytes (meaningsOf 20 (c .records) (c .paths)))) (pick (writing.writesTree (c .options)) (nodesIn (c .nodes)) 0)
+  -- record j shows every kept field, the kept flags and the path of the j-th record not marked REMOVE
+  pub written-reads-back : (c : Case) → Done? write c → (j i : ℕ) → getElem? (keptOf (c .records)) j ≡ some i
+      → SameEntry (c .records) (c .paths) i (readAgain write read c .records) (readAgain write read c .paths) j
+  -- the written tree reads back
+  pub tree-reads-back : (c : Case) → Done? write c → writing.writesTree (c .options) ≡ true → readAgain write read c .nodes ≡ filled (c .nodes′) (treeIn c)
+  -- what is written is spelled by the grammar
+  pub written-is-spelled : (c : Case) → Done? write c → File 20 (fileIn write c) (meant c)
+  -- EOIE that was written is found, with the offset where the extensions start
+  pub eoie-is-found : (c : Case) → Done? write c → writing.hasEoie (recordsIn (c .records)) (c .options) ≡ true
+      → offsetIn 20 sha1 (fileIn write c) ≡ Offset (fileAt (writing.offsetOf 20 (c .records) (c .paths)))
+
+-- ---- DEMAND 2: lookup in a strictly sorted table, at stages 0 to 3
+
+pub record Finds (lookup : Lookup) : Type 0 where
+  -- absent exactly when no record has that path and stage
+  pub absent-exactly : (rs ps : List ℕ) → StrictlySorted rs ps → (key : List ℕ) (stage : ℕ) → stage ≤ highestStage → ((k : ℕ) × (lookup rs ps key stage ≡ Absent k)) ↔ ((i : ℕ) → ¬ Has rs ps key stage i)
+  -- found i exactly when record i has them
+  pub found-exactly : (rs ps : List ℕ) → StrictlySorted rs ps → (key : List ℕ) (stage : ℕ) → stage ≤ highestStage → (i : ℕ) → ((k : ℕ) × (lookup rs ps key stage ≡ At i k)) ↔ Has rs ps key stage i
+
+pub record Demand2 (write : Writer) (read : Reader) (lookup : Lookup) : Type 0 where
+  pub reads-back : ReadsBack write read
+  pub finds : Finds lookup
+
+-- ---- THE HALVING RULE: the number that lookup answers is the rule's own count, in any table
+
+pub record CountsTheSteps (lookup : Lookup) : Type 0 where
+  pub found : (rs ps key : List ℕ) (stage i k : ℕ) → lookup rs ps key stage ≡ At i k → k ≡ lookupSteps rs ps key stage
+  pub absent : (rs ps key : List ℕ) (stage k : ℕ) → lookup rs ps key stage ≡ Absent k → k ≡ lookupSteps rs ps key stage
+
+-- ---- SHA-1's DEFINITION AFTER EACH PIECE
+
+module _ (d : Digester) where
+  abbrev pub fedAll : d .State → List (List ℕ) → d .State
+  fedAll x [] = x
+  fedAll x (p ∷ ps) = fedAll (d .feed x p) ps
+
+  -- finished after any number of any pieces, it answers SHA-1 of these pieces
+  abbrev pub DigestsEachPrefix : Type 0
+  DigestsEachPrefix = (pieces : List (List ℕ)) (n : ℕ) → d .finish (fedAll (d .new) (take n pieces)) ≡ sha1 (flatten (take n pieces))

@@ -1,0 +1,110 @@
+-- WITNESSES against the frauds. A file with one entry that demand 3 speaks of, the grammar's own example of a path that ends at NUL; and two messages with two digests. Assumes nothing.
+use Prim.Native.Nat.{ℕ, zero, suc, _<_}
+use mathlib.Core.Path.{_≡_, refl, sym, ap, _∙_, subst}
+use mathlib.Core.Bool.{true, false}
+use mathlib.Core.List.{List, [], _∷_, _++_}
+use mathlib.Core.Option.{none}
+use native.Mathlib.Omega.{arith}
+use lib.Dec.{lit≤, lit<}
+use lib.ListN.{length, getD, replicate}
+use Rattle.laws.specs.Times.{readTimes, done}
+use Rattle.wire.specs.BigEndian.{beAt, bytesOf}
+use Rattle.format.specs.Format.{idSize}
+use Rattle.sha1.specs.Sha1.{rotl, ch, parity, maj, mixOf, constOf, zerosOf, padding, initial, wordsOf, nextWord, extend, schedule, turn, rounds, added, compress, hashBlocks, digestOf, sha1}
+use Rattle.entry.specs.Mode.{keepMode}
+use Rattle.entry.specs.Record.{recordOf, frontOf, restOf, fieldAt, liesInside, pathAt}
+use Rattle.access.specs.Marked.{row, table, paths as store}
+use Rattle.grammar.specs.Entry.{Meaning, meaning, start, Entries}
+use Rattle.grammar.specs.Entry.NoNul.{empty, byte}
+use Rattle.grammar.specs.Fault.{extensions-length}
+use Rattle.grammar.specs.File.{Index, DIRC, File, space}
+use Rattle.grammar.specs.DecideNumber.{readBytes, readBig, readUntil, decided}
+use Rattle.grammar.specs.DecideEntry.{readWords, readFields, readFlags, readToNul, readName, readEntry, readEntries, entries-reads}
+use Rattle.grammar.specs.Unique.{entries-unique}
+use Rattle.grammar.specs.Examples.{path-to-nul}
+use Rattle.claims_entries.specs.Rendering.{pathsBytes}
+use Rattle.claims_entries.specs.Said.{Fits, RoomFor}
+use Rattle.claims_extension.specs.Words.{allBytes, bytes-if}
+use Rattle.claims.specs.Premises.{Slices, zeros}
+use Rattle.claims.specs.Said.{Opened}
+use Rattle.claims.specs.Claims.{TreeFits}
+use Rattle.claims.specs.Example.{none-last}
+use Rattle.claims_write.specs.Meaning.{keptFrom, WritableTable}
+use Rattle.claims_write.specs.Claims.{Roomy}
+use Rattle.claims_frauds.specs.Demands.{Readable}
+
+-- ---- the file: version 2, one entry, path "ab" behind a length field of 4095, no extension, a trailer of zeros
+
+abbrev pub one-entry : List ℕ
+one-entry =
+    (DIRC ++ (0 ∷ 0 ∷ 0 ∷ 2 ∷ 0 ∷ 0 ∷ 0 ∷ 1 ∷ []))
+    ++ ((replicate 24 0 ++ ((255 ∷ 255 ∷ 129 ∷ 164 ∷ []) ++ (replicate 12 0 ++ replicate 20 3)))
+    ++ ((15 ∷ 255 ∷ 97 ∷ 98 ∷ 0 ∷ 1 ∷ 2 ∷ 3 ∷ 4 ∷ 5 ∷ 6 ∷ 7 ∷ []) ++ replicate 20 0))
+
+abbrev the-entry : Meaning
+the-entry = meaning (record { ctime = 0; ctime-nanos = 0; mtime = 0; mtime-nanos = 0; dev = 0; ino = 0; mode = 0o100644; uid = 0; gid = 0; size = 0 }) (replicate 20 3) 0 (97 ∷ 98 ∷ [])
+
+abbrev pub the-index : Index
+the-index = record { version = 2; sparse = false; entries = the-entry ∷ []; tree = none }
+
+pub one-entry-spelled : File idSize one-entry the-index
+one-entry-spelled = path-to-nul
+
+-- the stores lent: for one record, two path bytes and one node
+abbrev pub records : List ℕ
+records = replicate 96 0
+
+abbrev pub paths : List ℕ
+paths = replicate 2 0
+
+abbrev pub nodes : List ℕ
+nodes = replicate 72 0
+
+-- ---- the premises
+
+slices : Slices one-entry paths nodes
+unfolding allBytes
+slices = record { bytes = bytes-if one-entry refl; file = lit< tt; paths = lit< tt; nodes = lit< tt }
+
+opened : Opened one-entry
+opened = record { header = record { long = lit≤ tt; signature = refl; version = record { oldest = lit≤ tt; newest = lit≤ tt } }; trailer = zeros refl }
+
+-- the entry takes the whole space
+all-spelled : Entries idSize 2 start 1 (space idSize one-entry) (the-entry ∷ [])
+unfolding readTimes readBytes readBig readUntil readWords readFields readFlags readToNul readName readEntry readEntries
+all-spelled = decided (entries-reads idSize 2 start 1) (space idSize one-entry) (the-entry ∷ []) refl
+
+room : RoomFor idSize 2 (space idSize one-entry) 1 records paths
+unfolding pathsBytes
+room zero ms rest h (b, i, done) = record { records = lit≤ tt; paths = lit≤ tt }
+room (suc zero) ms rest h x =
+    let (e, f, g) = entries-unique idSize 2 start 1 (space idSize one-entry) ms (the-entry ∷ []) rest [] x (space idSize one-entry, refl, all-spelled) in
+    subst (λ (l : List Meaning). Fits records paths 1 l) (sym e) (record { records = lit≤ tt; paths = lit≤ tt })
+room (suc (suc k)) ms rest h x = absurd (omega arith)
+
+pub readable : Readable one-entry records paths nodes
+readable = record { slices = slices; opened = opened; room = room }
+
+pub tree-fits : TreeFits one-entry nodes
+tree-fits place body x =
+    let (e, f, g) = entries-unique idSize 2 start 1 (space idSize one-entry) (x .ms) (the-entry ∷ []) (x .c) [] (x .b, x .joins, x .entries) (space idSize one-entry, refl, all-spelled) in
+    absurd (none-last (x .last) (sym (extensions-length (x .extensions)) ∙ ap length f))
+
+-- ---- 01's marked table loses nothing by being written, and three records and five path bytes are room enough for it
+
+pub writable : WritableTable table store
+unfolding table row store recordOf frontOf restOf fieldAt liesInside pathAt beAt bytesOf keepMode
+writable zero h stays = record { path = λ q. byte (lit< tt) empty; mode = refl; marks = λ e. refl }
+writable (suc zero) h stays = record { path = λ q. byte (lit< tt) empty; mode = refl; marks = λ e. refl }
+writable (suc (suc zero)) h stays = record { path = λ q. byte (lit< tt) (byte (lit< tt) (byte (lit< tt) empty)); mode = refl; marks = λ e. refl }
+writable (suc (suc (suc i))) h stays = let few : suc (suc (suc i)) < 3 = h in absurd (omega arith)
+
+pub roomy : Roomy table store [] (record { tree = false; cache = false; eoie = false; sparse = false; unhashed = true }) (replicate 288 0) (replicate 5 0) []
+unfolding table row store recordOf frontOf restOf fieldAt liesInside pathAt beAt bytesOf keepMode keptFrom pathsBytes
+roomy = record { records = lit≤ tt; paths = lit≤ tt; nodes = λ e. lit≤ tt }
+
+-- ---- two messages: none, and one byte
+
+pub digests-differ : ¬ (sha1 (97 ∷ []) ≡ sha1 [])
+unfolding beAt bytesOf rotl ch parity maj mixOf constOf zerosOf padding initial wordsOf nextWord extend schedule turn rounds added compress hashBlocks digestOf sha1
+digests-differ e = let z : _≡_ {A = ℕ} 0x86 0xda = ap (λ (l : List ℕ). getD l 0 0) e in omega arith

@@ -1,0 +1,31 @@
+-- That the contract of each callable function of the writer settles its answer and every byte of the output. Assumes nothing.
+use Rattle.write.specs.File.{Outcome}
+use Rattle.walk_order.proofs as walk_order
+use Rattle.proper.proofs as proper
+use Rattle.tree_write.proofs as tree_write
+use Rattle.write.proofs as write
+use Rattle.claims_settled.specs.Law.{Settles, settled}
+
+-- ---- `walk_order`, `proper`
+
+pub in-walk-order-settled : Settles walk_order.in_walk_order.Kinds.ps walk_order.in_walk_order.Kinds.r walk_order.in_walk_order.Reads.Learnt
+in-walk-order-settled κs a z z′ w w′ = settled (λ r. (r, w))
+
+pub next-child-settled : Settles walk_order.next_child.Kinds.ps walk_order.next_child.Kinds.r walk_order.next_child.Reads.Learnt
+next-child-settled κs a z z′ w w′ = settled (λ r. (r, w))
+
+pub is-proper-settled : Settles proper.is_proper.Kinds.ps proper.is_proper.Kinds.r proper.is_proper.Reads.Learnt
+is-proper-settled κs a z z′ w w′ = settled (λ r. (r, w))
+
+-- ---- `tree_write`
+
+pub tree-size-settled : Settles tree_write.tree_size.Kinds.ps tree_write.tree_size.Kinds.r tree_write.tree_size.Reads.Learnt
+tree-size-settled κs a z z′ w w′ = settled (λ r. (r, w))
+
+pub put-tree-settled : Settles tree_write.put_tree.Kinds.ps tree_write.put_tree.Kinds.r tree_write.put_tree.Reads.Learnt
+put-tree-settled κs a z z′ w w′ = settled (λ o. (tt, (tt, (tt, (o, (tt, tt))))))
+
+-- ---- `write`
+
+pub write-to-settled : Settles write.write_to.Kinds.ps write.write_to.Kinds.r write.write_to.Reads.Learnt
+write-to-settled κs a z z′ w w′ = settled (λ (o : Outcome). (o .answer, (tt, (tt, (tt, (tt, (tt, (o .out, tt))))))))

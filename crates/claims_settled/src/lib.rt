@@ -1,0 +1,1 @@
+// No code: that the contract of every callable function settles its answer and every lent store.

@@ -1,0 +1,51 @@
+use Prim.Native.Nat.{_-_}
+use mathlib.Core.Path.{_≡_}
+use Rattle.proper.specs.Proper.{allIn, nodeFits}
+use borrow.Author.Needs.{needs}
+use Rattle.proper.proofs.Fits.{fits}
+use Rattle.proper.proofs.nodes_fit.Statement.{statement}
+use Rattle.proper.proofs.nodes_fit.Tie as tie
+use Rattle.proper.proofs.nodes_fit.Reads as reads
+use Rattle.proper.proofs.nodes_fit.Lts as lts
+use Rattle.proper.proofs.node_fits.Reads as node-fits-reads
+
+abbrev Inv-loop : tie.InvT-loop
+Inv-loop nodes names n i₀ i = allIn (nodeFits 64 nodes names) (n - i) i ≡ allIn (nodeFits 64 nodes names) n 0
+
+abbrev μ-loop : tie.MeasureT-loop
+μ-loop nodes names n i₀ i = n - i
+
+loop-holds : tie.Need-loop-holds Inv-loop μ-loop
+loop-holds c = search (fits, needs)
+
+node-fits-requires : tie.Need-node-fits-requires Inv-loop μ-loop
+node-fits-requires c κs = search (fits, needs)
+
+add-i : tie.Need-add-i Inv-loop μ-loop
+add-i c = search (fits, needs)
+
+loop-less : tie.Need-loop-less Inv-loop μ-loop
+loop-less c = search (fits, needs)
+
+loop-again : tie.Need-loop-again Inv-loop μ-loop
+loop-again c = search (fits, needs)
+
+returns : tie.Need-returns Inv-loop μ-loop
+returns c = search (fits, needs)
+
+returns-2 : tie.Need-returns-2 Inv-loop μ-loop
+returns-2 c = search (fits, needs)
+
+pub nodes-fit-spec : {M : Type 1} → statement M
+nodes-fit-spec =
+    tie.close
+    (tie.spec
+    Inv-loop
+    μ-loop
+    loop-holds
+    node-fits-requires
+    add-i
+    loop-less
+    loop-again
+    returns
+    returns-2)

@@ -1,0 +1,88 @@
+-- Laws of the walk order's definitions, turned the way that the needs ask. Assumes nothing.
+use mathlib.Core.Bool.{Bool, true, false}
+use mathlib.Core.Path.{_≡_, refl, sym, ap, _∙_}
+use mathlib.Core.List.{List}
+use Prim.Native.Nat.{ℕ, suc, _+_, _-_, _≤_, _<_}
+use native.Mathlib.Omega.{arith}
+use lib.Dec.{ltb, eqb}
+use borrow.Author.Tests.{lt-ltb, le-ltb, eq-eqb, ne-eqb}
+use Rattle.laws.specs.Pick.{pick}
+use Rattle.node.specs.Store.{nodesIn, parentAt}
+use Rattle.walk_order.specs.Walk.{climbsTo, walksFrom, walks, childFrom, nextChild}
+
+-- ---- a climb
+
+climb-step : (ns : List ℕ) (k i q : ℕ) → q < i → climbsTo ns k (parentAt ns i) q ≡ climbsTo ns (suc k) i q
+unfolding climbsTo
+climb-step ns k i q h = sym (rw (lt-ltb q i h))
+
+module _ (ns : List ℕ) (left i q : ℕ) (r : Bool) (inv : climbsTo ns left i q ≡ r) where
+  pub climb-none : left ≤ 0 → false ≡ r
+  unfolding climbsTo
+  climb-none h = let z : left ≡ 0 = omega arith in rw z at inv
+
+  pub climb-there : 0 < left → i ≤ q → (t : Bool) → t ≡ eqb i q → t ≡ r
+  unfolding climbsTo
+  climb-there h k t e = let z : left ≡ suc (left - 1) = omega arith in e ∙ sym (rw (z, le-ltb q i k)) ∙ inv
+
+  pub climb-up : 0 < left → q < i → (p : ℕ) → p ≡ parentAt ns i → climbsTo ns (left - 1) p q ≡ r
+  climb-up h k p e =
+      let z : suc (left - 1) ≡ left = omega arith in
+      ap (λ (x : ℕ). climbsTo ns (left - 1) x q) e ∙ climb-step ns (left - 1) i q k ∙ ap (λ (x : ℕ). climbsTo ns x i q) z ∙ inv
+
+-- ---- the pass over the table
+
+pub walk-start : (ns : List ℕ) → walksFrom 64 ns (nodesIn ns - 1) 1 ≡ walks 64 ns
+unfolding walks
+walk-start ns = refl
+
+module _ (ns : List ℕ) (n j : ℕ) (r : Bool) (inv : walksFrom 64 ns (n - j) j ≡ r) where
+  pub walk-end : n ≤ j → true ≡ r
+  unfolding walksFrom
+  walk-end h = let z : n - j ≡ 0 = omega arith in rw z at inv
+
+  module _ (h : j < n) (p b : ℕ) (ep : p ≡ parentAt ns j) (eb : b ≡ j - 1) (t : Bool) (et : t ≡ climbsTo ns 64 b p) where
+    cut : pick t (walksFrom 64 ns (n - (j + 1)) (j + 1)) false ≡ r
+    unfolding walksFrom
+    cut =
+        let z : n - j ≡ suc (n - (j + 1)) = omega arith in
+        let s : t ≡ climbsTo ns 64 (j - 1) (parentAt ns j) = et ∙ (λ k. climbsTo ns 64 (eb k) (ep k)) in
+        sym (rw (z, ← s)) ∙ inv
+
+    pub walk-more : t ≡ true → walksFrom 64 ns (n - (j + 1)) (j + 1) ≡ r
+    walk-more k = sym (ap (λ (x : Bool). pick x (walksFrom 64 ns (n - (j + 1)) (j + 1)) false) k) ∙ cut
+
+    pub walk-not : t ≡ false → false ≡ r
+    walk-not k = sym (ap (λ (x : Bool). pick x (walksFrom 64 ns (n - (j + 1)) (j + 1)) false) k) ∙ cut
+
+-- ---- the search
+
+module _ (ns : List ℕ) (p x : ℕ) where
+  pub child-past : nodesIn ns ≤ x → 0 ≡ nextChild ns p x
+  unfolding nextChild childFrom
+  child-past h = let z : nodesIn ns - (x + 1) ≡ 0 = omega arith in sym (rw z)
+
+  pub child-start : childFrom ns p (nodesIn ns - (x + 1)) (x + 1) ≡ nextChild ns p x
+  unfolding nextChild
+  child-start = refl
+
+module _ (ns : List ℕ) (p n j r : ℕ) (inv : childFrom ns p (n - j) j ≡ r) where
+  pub child-end : n ≤ j → 0 ≡ r
+  unfolding childFrom
+  child-end h = let z : n - j ≡ 0 = omega arith in rw z at inv
+
+  module _ (h : j < n) (q : ℕ) (e : q ≡ parentAt ns j) where
+    cut-child : pick (eqb q p) j (pick (ltb q p) 0 (childFrom ns p (n - (j + 1)) (j + 1))) ≡ r
+    unfolding childFrom
+    cut-child = let z : n - j ≡ suc (n - (j + 1)) = omega arith in sym (rw (z, ← e)) ∙ inv
+
+    pub child-here : q ≡ p → j ≡ r
+    child-here k = sym (rw (eq-eqb q p k)) ∙ cut-child
+
+    pub child-over : (q ≡ p → ⊥) → q < p → 0 ≡ r
+    child-over k l = sym (rw (ne-eqb q p k, lt-ltb q p l)) ∙ cut-child
+
+    pub child-more : (q ≡ p → ⊥) → p ≤ q → childFrom ns p (n - (j + 1)) (j + 1) ≡ r
+    child-more k l = sym (rw (ne-eqb q p k, le-ltb q p l)) ∙ cut-child
+
+pub ruleset laws = (climb-none, climb-there, climb-up, walk-start, walk-end, walk-more, walk-not, child-past, child-start, child-end, child-here, child-over, child-more)

@@ -1,0 +1,30 @@
+-- A node table in walk order (01, Extensions: "Nodes go to a lent store in file order"): the parent of each node but the first is the node before it, or is
+-- reached from there by parents. And the search for the next child, which in such a table need not pass over the whole of it. Assumes nothing.
+use mathlib.Core.Bool.{Bool, true, false}
+use mathlib.Core.List.{List}
+use Prim.Native.Nat.{ℕ, zero, suc, _+_, _-_}
+use lib.Dec.{ltb, eqb}
+use Rattle.laws.specs.Pick.{pick}
+use Rattle.node.specs.Store.{nodesIn, parentAt}
+
+-- `to` is `from`, or is reached from there by parents, over at most so many nodes, both counted; a climb that has come below `to` misses it
+unfoldable pub climbsTo : List ℕ → ℕ → ℕ → ℕ → Bool
+climbsTo ns zero from to = false
+climbsTo ns (suc k) from to = pick (ltb to from) (climbsTo ns k (parentAt ns from) to) (eqb from to)
+
+-- k nodes from j on each have a parent that is reached from the node before them
+unfoldable pub walksFrom : ℕ → List ℕ → ℕ → ℕ → Bool
+walksFrom limit ns zero j = true
+walksFrom limit ns (suc k) j = pick (climbsTo ns limit (j - 1) (parentAt ns j)) (walksFrom limit ns k (j + 1)) false
+
+unfoldable pub walks : ℕ → List ℕ → Bool
+walks limit ns = walksFrom limit ns (nodesIn ns - 1) 1
+
+-- the first child of p among k nodes from j on, or 0; a node whose parent stands before p ends the search
+unfoldable pub childFrom : List ℕ → ℕ → ℕ → ℕ → ℕ
+childFrom ns p zero j = 0
+childFrom ns p (suc k) j = pick (eqb (parentAt ns j) p) j (pick (ltb (parentAt ns j) p) 0 (childFrom ns p k (j + 1)))
+
+-- the next child of p behind node x, or 0
+unfoldable pub nextChild : List ℕ → ℕ → ℕ → ℕ
+nextChild ns p x = childFrom ns p (nodesIn ns - (x + 1)) (x + 1)

@@ -1,0 +1,62 @@
+// Node tables in walk order, as the reader stores them: what is below a node stands right behind it. There a node's children are found among the nodes behind it, and
+// the search ends with the last of them.
+ghost use mathlib.Core.Path.{_≡_};
+ghost use Rattle.walk_order.specs.Walk.{climbsTo, walks, nextChild};
+
+// Whether `to` is `from`, or is reached from there by parents.
+fn climbs_to(nodes: &[u8], from: usize, to: usize) -> bool
+    ensures { λ r. ⌜ r ≡ climbsTo (now (nodes .entry)) 64 from to ⌝ }
+{
+    let mut node = from;
+    let mut left = format::DEPTH_LIMIT;
+    while 0 < left {
+        if node <= to {
+            return node == to;
+        }
+        let up = node::parent(nodes, node);
+        node = up as usize;
+        left -= 1;
+    }
+    false
+}
+
+// Whether the table is in walk order: the parent of each node but the first is the node before it, or is reached from there. Each climb goes over nodes that no later
+// one goes over again, so the test costs one pass.
+pub fn in_walk_order(nodes: &[u8]) -> bool
+    ensures { λ r. ⌜ r ≡ walks 64 (now (nodes .entry)) ⌝ }
+{
+    let n = nodes.len() / node::NODE_SIZE;
+    let mut j: usize = 1;
+    while j < n {
+        let p = node::parent(nodes, j);
+        let before = j - 1;
+        if climbs_to(nodes, before, p as usize) {
+            j += 1;
+        } else {
+            return false;
+        }
+    }
+    true
+}
+
+// The next child of p behind node x, or 0: the search ends at a node whose parent stands before p, for in walk order no child of p comes after it.
+pub fn next_child(nodes: &[u8], p: usize, x: usize) -> usize
+    ensures { λ r. ⌜ r ≡ nextChild (now (nodes .entry)) p x ⌝ }
+{
+    let n = nodes.len() / node::NODE_SIZE;
+    if n <= x {
+        return 0;
+    }
+    let mut j = x + 1;
+    while j < n {
+        let q = node::parent(nodes, j);
+        if q == p as u64 {
+            return j;
+        }
+        if q < p as u64 {
+            return 0;
+        }
+        j += 1;
+    }
+    0
+}

@@ -1,0 +1,59 @@
+//! An index written anew.
+use crate::error::{Error, Refusal};
+use crate::ffi::{self, Values};
+use crate::index::Index;
+use crate::stores;
+
+/// What [`Index::write`] writes beside the entries.
+#[derive(Clone, Copy, Debug, PartialEq, Eq)]
+pub struct WriteOptions {
+    /// The tree, if the index has one.
+    pub tree: bool,
+    /// EOIE, by which a reader finds extensions at once; it is left out where there is nothing to find.
+    pub eoie: bool,
+    /// Twenty zeros in the place of the hash.
+    pub zero_trailer: bool,
+}
+
+impl Default for WriteOptions {
+    /// The tree, no EOIE, and the hash.
+    fn default() -> WriteOptions {
+        WriteOptions { tree: true, eoie: false, zero_trailer: false }
+    }
+}
+
+impl Index {
+    /// The bytes of an index file with the same entries, in the same order, with the same mark of being sparse: of
+    /// version 3 if an entry has extended flags, else 2. Extensions other than TREE and `sdir` are not written again.
+    ///
+    /// ```
+    /// # use sparrowpivot::{Index, WriteOptions};
+    /// # fn main() -> Result<(), sparrowpivot::Error> {
+    /// let index = Index::open("tests/data/quarrel.index")?;
+    /// let written = Index::from_bytes(index.write(WriteOptions::default())?)?;
+    /// assert!(written.entries().eq(index.entries()));
+    /// # Ok(())
+    /// # }
+    /// ```
+    pub fn write(&self, options: WriteOptions) -> Result<Vec<u8>, Error> {
+        // what was read from version 2 or 3 is not longer when it is written
+        let mut out = stores::store(self.as_bytes().len(), 0)?;
+        let values = match self.write_into(options, &mut out) {
+            Err(Refusal::ShortOutput { size }) => {
+                out = stores::store(usize::try_from(size).unwrap_or(usize::MAX), 0)?;
+                self.write_into(options, &mut out)?
+            }
+            answer => answer?,
+        };
+        let [_, size, ..] = values;
+        out.truncate(size as usize);
+        Ok(out)
+    }
+
+    fn write_into(&self, options: WriteOptions, out: &mut [u8]) -> Result<Values, Refusal> {
+        let bits = [self.tree().is_some(), options.tree, options.eoie, self.is_sparse(), options.zero_trailer];
+        let sum = bits.iter().rev().fold(0u32, |sum, bit| sum.wrapping_shl(1) | u32::from(*bit));
+        let (records, paths, nodes) = self.tables();
+        ffi::write(records, paths, nodes, self.as_bytes(), sum, out)
+    }
+}
