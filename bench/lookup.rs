@@ -2,7 +2,8 @@
 //   lookup make N OUT         writes an index of version 2 with N entries, for where the oracle cannot make one
 //   lookup time FILE ROUNDS   the best time of as many lookups as the index has entries, scattered and in order, in ns a lookup
 use std::cmp::Ordering;
-use std::time::Instant;
+mod clock;
+use clock::seconds;
 
 #[link(name = "sparrowpivot", kind = "static")]
 extern "C" {
@@ -80,20 +81,22 @@ fn main() {
         let (mut ours, mut ours_aligned, mut rust) = (f64::MAX, f64::MAX, f64::MAX);
         for _ in 0..a[3].parse::<usize>().unwrap() {
             for (best, records) in [(&mut ours, &records[..]), (&mut ours_aligned, &*aligned)] {
-                let t = Instant::now();
+                let t = seconds(|| {
+                    for &i in order {
+                        let k = &keys[i];
+                        let r = unsafe { sparrowpivot_lookup(records.as_ptr(), records.len(), paths.as_ptr(), paths.len(), k.as_ptr(), k.len(), 0, v.as_mut_ptr()) };
+                        assert!(r == 0 && v[0] == 1 && v[1] == i as u64);
+                    }
+                });
+                *best = best.min(t * 1e9 / n as f64);
+            }
+            let t = seconds(|| {
                 for &i in order {
-                    let k = &keys[i];
-                    let r = unsafe { sparrowpivot_lookup(records.as_ptr(), records.len(), paths.as_ptr(), paths.len(), k.as_ptr(), k.len(), 0, v.as_mut_ptr()) };
-                    assert!(r == 0 && v[0] == 1 && v[1] == i as u64);
+                    let (found, at, _) = halving(&table, &paths, &keys[i], 0);
+                    assert!(found && at == i);
                 }
-                *best = best.min(t.elapsed().as_nanos() as f64 / n as f64);
-            }
-            let t = Instant::now();
-            for &i in order {
-                let (found, at, _) = halving(&table, &paths, &keys[i], 0);
-                assert!(found && at == i);
-            }
-            rust = rust.min(t.elapsed().as_nanos() as f64 / n as f64);
+            });
+            rust = rust.min(t * 1e9 / n as f64);
         }
         println!("{what}: this lookup {ours:.1} ns, records at a multiple of 64 {ours_aligned:.1} ns, straightforward Rust {rust:.1} ns a lookup");
     }

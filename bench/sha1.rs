@@ -1,7 +1,8 @@
 // Measures the proved digest, as the static library exports it, against plain scalar Rust: SHA-1 with all eighty words in an array, with the rounds in one
 // loop and in four. All three are checked against each other first, at every length below 400, and run alternately, each in short runs of which the best
 // counts, so that other work of the machine disturbs little. `bench/sha1` builds and runs this.
-use std::time::Instant;
+mod clock;
+use clock::seconds;
 
 #[link(name = "sparrowpivot", kind = "static")]
 extern "C" {
@@ -107,14 +108,14 @@ fn main() {
     let mut best = [[f64::MAX; 2]; 3];
     for _ in 0..200 {
         for (i, (_, f)) in all.iter().enumerate() {
-            let t = Instant::now();
-            std::hint::black_box(f(&data));
-            best[i][0] = best[i][0].min(t.elapsed().as_secs_f64());
-            let t = Instant::now();
-            for k in 0..10000 {
-                std::hint::black_box(f(&data[k..k + 40]));
-            }
-            best[i][1] = best[i][1].min(t.elapsed().as_secs_f64());
+            best[i][0] = best[i][0].min(seconds(|| {
+                std::hint::black_box(f(&data));
+            }));
+            best[i][1] = best[i][1].min(seconds(|| {
+                for k in 0..10000 {
+                    std::hint::black_box(f(&data[k..k + 40]));
+                }
+            }));
         }
     }
     for (i, (name, _)) in all.iter().enumerate() {

@@ -1,7 +1,8 @@
 // Measures the proved reader of TREE against the Rust's `tree::decode`: 20,000 folders in three levels, and one folder with 20,000 subfolders, in byte order and in
 // git's own. Both are run alternately, each in short runs of which the best counts. The last line has two of the subfolders exchanged, so that no order settles the
 // names and each is compared with all before it. `bench/tree` builds and runs this.
-use std::time::Instant;
+mod clock;
+use clock::seconds;
 
 #[link(name = "tree_bench", kind = "static")]
 extern "C" {
@@ -19,12 +20,6 @@ fn node(name: &str, subtrees: &[Vec<u8>]) -> Vec<u8> {
 
 fn leaves(names: &[String]) -> Vec<u8> {
     node("", &names.iter().map(|n| node(n, &[])).collect::<Vec<_>>())
-}
-
-fn seconds(f: impl FnOnce()) -> f64 {
-    let t = Instant::now();
-    f();
-    t.elapsed().as_secs_f64()
 }
 
 fn main() {

@@ -4,8 +4,9 @@
 // hashed by the oracle's SHA-1, plain scalar code that uses no SHA instructions (nor does ours), or twenty zeros are put behind them. What was written is compared, byte
 // by byte.
 //   write FILE ROUNDS     FILE: an index of version 2 without TREE
+mod clock;
+use clock::seconds;
 use gix_index::{decode, init, write, State};
-use std::time::Instant;
 
 #[link(name = "sparrowpivot", kind = "static")]
 extern "C" {
@@ -32,12 +33,6 @@ fn tree() -> Vec<u8> {
 fn with_tree(index: &[u8]) -> Vec<u8> {
     let body = tree();
     [&index[..index.len() - 20], b"TREE", &(body.len() as u32).to_be_bytes(), &body, &[0; 20]].concat()
-}
-
-fn seconds(f: impl FnOnce()) -> f64 {
-    let t = Instant::now();
-    f();
-    t.elapsed().as_secs_f64()
 }
 
 struct Table {

@@ -3,9 +3,6 @@ use Rattle.entry.specs.Eight.{eight-is}
 use borrow.Author.Needs.{needs}
 use Rattle.entry.proofs.eight_at.Statement.{statement}
 use Rattle.entry.proofs.eight_at.Tie as tie
-use Rattle.entry.proofs.eight_at.Reads as reads
-use Rattle.entry.proofs.eight_at.Lts as lts
-use Rattle.entry.proofs.eight.number_of.Reads as number-of-reads
 
 shared-slice-read-number-of : tie.Need-shared-slice-read-number-of
 shared-slice-read-number-of c = search needs

@@ -3,10 +3,6 @@ use Rattle.entry.specs.Eight.{turned-eight}
 use borrow.Author.Needs.{needs}
 use Rattle.entry.proofs.eight.number_of.Statement.{statement}
 use Rattle.entry.proofs.eight.number_of.Tie as tie
-use Rattle.entry.proofs.eight.number_of.Reads as reads
-use Rattle.entry.proofs.eight.number_of.Lts as lts
-use Rattle.entry.proofs.eight.four_of.Reads as four-of-reads
-use Rattle.entry.proofs.eight.turned_eight.Reads as turned-eight-reads
 
 four-of-requires : tie.Need-four-of-requires
 four-of-requires c κs = search needs
