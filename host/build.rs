@@ -35,7 +35,10 @@ fn given_folder(folder: PathBuf) -> PathBuf {
 /// The folder in which `rt` puts the archive. One that is newer than all it is made of is taken as it is.
 fn built_folder() -> PathBuf {
     if !target_is("ARCH", "x86_64") || !target_is("OS", "linux") {
-        fail("the static library that `rt` builds links into programs for x86-64 Linux only");
+        fail(
+            "the static library that `rt` builds links into programs for x86-64 Linux only; \
+             SPARROWPIVOT_LIB_DIR may name the folder of one that was made for another machine",
+        );
     }
     let Some(repository) = Path::new(env!("CARGO_MANIFEST_DIR")).parent() else {
         fail("host/ stands in no folder");
