@@ -1,0 +1,105 @@
+-- END TO END FOR C: what a C program gets from the exported functions. A call enters by what Rattle itself reads out of the function's contract (`ReadCall` and the like, of `claims_settled`),
+-- so each sentence is about the code. A meaning is the grammar's: `File idSize s m` says that the bytes s spell the index m. `values` are the eight numbers, `value values k` is `values[k]`.
+-- Stores with a dash are as the call left them. Premises are named: `Slices` (the file is bytes, and no slice has 2^64 bytes or more) throughout; each other one stands where it is needed.
+use Prim.Native.Nat.{ℕ, _+_, _≤_, _<_}
+use mathlib.Core.Path.{_≡_, refl, sym, ap, _∙_, subst}
+use mathlib.Core.List.{List, [], _∷_}
+use mathlib.Core.Logic.{_↔_}
+use native.Mathlib.Omega.{arith}
+use lib.ListN.{length, take}
+use Rattle.refusal.specs.Refusal.{short-file, no-signature, other-version, bad-trailer, not-spelled, no-entry-room, not-filled, mandatory, too-deep, no-node-room}
+use Rattle.format.specs.Format.{depthLimit, idSize}
+use Rattle.file.specs.Answer.{numberOf}
+use Rattle.file.specs.Read.{Outcome, outcome}
+use Rattle.file.specs.declared.Answer.{Answer}
+use Rattle.grammar.specs.Number.{bigEndian}
+use Rattle.grammar.specs.File.{Index, DIRC, headerLength, Supported, File, versionOf, countOf, space, GoodHeader}
+use Rattle.grammar.specs.Fault.{stray, refused, Faulty}
+use Rattle.claims_entries.specs.Rendering.{pathsBytes}
+use Rattle.claims_entries.specs.Said.{StopsAt, RoomFor, LacksRoomAt}
+use Rattle.claims_tree.specs.Said.{lent, GoesTooDeep, UsesUp}
+use Rattle.claims.specs.Premises.{Slices, GoodTrailer}
+use Rattle.claims.specs.Said.{Opened, SaysFile}
+use Rattle.claims.specs.Reading as reader
+use Rattle.claims.specs.Claims as claims
+use Rattle.claims.specs.Claims.{TreeFits, hasTree, nodesOf, Behind, BehindIsTREE}
+use Rattle.sparrowpivot.specs.Told.{bit}
+use Rattle.sparrowpivot.specs.Reading.{readValues}
+use Rattle.claims_settled.specs.Exports.{ReadCall}
+use Rattle.claims_c.specs.Numbers.{value, reading, number-told, values-told, left, code-small, zero-is-read, read-is-zero, by-number, by-number-and-value, one-value-told}
+
+-- ---- 1. WHAT `sparrowpivot_read` RETURNS, AND WHEN
+
+module _ {s rs ps ns values rs′ ps′ ns′ : List ℕ} {code : ℕ} (call : ReadCall s rs ps ns code values rs′ ps′ ns′) (slices : Slices s ps ns) where
+  -- given a good trailer, room for the entries and a tree that fits, 0 exactly if the grammar spells the file
+  pub read-returns-0-exactly-if-spelled : GoodTrailer s → RoomFor idSize (versionOf s) (space idSize s) (countOf s) rs ps → TreeFits s ns → (code ≡ 0) ↔ ((m : Index) × File idSize s m)
+  read-returns-0-exactly-if-spelled good room fits =
+      let both = claims.accepted-exactly-if-spelled s rs ps ns slices good room fits in
+      ((λ e. both .0 (zero-is-read call e)), (λ x. read-is-zero call (both .1 x)))
+
+  -- given a good header, a good trailer and room, 5 with k exactly when the first k entries can be spelled and the next, still within the header's count, cannot
+  pub read-returns-5-exactly : GoodHeader idSize s → GoodTrailer s → RoomFor idSize (versionOf s) (space idSize s) (countOf s) rs ps → (k : ℕ)
+      → ((code ≡ not-spelled) × (value values 0 ≡ k)) ↔ StopsAt idSize (versionOf s) (space idSize s) (countOf s) k
+  read-returns-5-exactly header trailer room k =
+      by-number-and-value call (claims.refusal-5-exactly s rs ps ns slices (record { header = header; trailer = trailer }) room k) (λ e. omega arith) refl refl refl
+
+  -- 1: the file is shorter than header and trailer
+  pub read-returns-1-exactly : (code ≡ short-file) ↔ (length s < headerLength + idSize)
+  read-returns-1-exactly = by-number call (claims.refusal-1-exactly s rs ps ns slices) (λ e. omega arith) refl (λ x. refl)
+
+  -- 2: it is not, and does not begin with "DIRC"
+  pub read-returns-2-exactly : (code ≡ no-signature) ↔ ((headerLength + idSize ≤ length s) × ¬ (take 4 s ≡ DIRC))
+  read-returns-2-exactly = by-number call (claims.refusal-2-exactly s rs ps ns slices) (λ e. omega arith) refl (λ x. refl)
+
+  -- 3 with the version: it does, and the version is none of 2, 3, 4
+  pub read-returns-3-exactly : (v : ℕ)
+      → ((code ≡ other-version) × (value values 0 ≡ v)) ↔ ((headerLength + idSize ≤ length s) × (take 4 s ≡ DIRC) × (¬ Supported (versionOf s)) × (v ≡ versionOf s))
+  read-returns-3-exactly v = by-number-and-value call (claims.refusal-3-exactly s rs ps ns slices v) (λ e. omega arith) refl refl refl
+
+  -- 4: the header is good, and the trailer is neither zeros nor the SHA-1 of the rest
+  pub read-returns-4-exactly : (code ≡ bad-trailer) ↔ (GoodHeader idSize s × ¬ GoodTrailer s)
+  read-returns-4-exactly = by-number call (claims.refusal-4-exactly s rs ps ns slices) (λ e. omega arith) refl (λ x. refl)
+
+  -- 6 with k: the first k entries have room, and one more is spelled, which has none
+  pub read-returns-6-exactly : (k : ℕ) → ((code ≡ no-entry-room) × (value values 0 ≡ k)) ↔ (Opened s × LacksRoomAt idSize (versionOf s) (space idSize s) (countOf s) rs ps k)
+  read-returns-6-exactly k = by-number-and-value call (claims.refusal-6-exactly s rs ps ns slices k) (λ e. omega arith) refl refl refl
+
+  -- 7 with a place: all entries are spelled and have room, and from that place on stand bytes that begin with no extension
+  pub read-returns-7-exactly : (place : ℕ)
+      → ((code ≡ not-filled) × (value values 0 ≡ place)) ↔ (Opened s × Behind s rs ps ns slices (λ b c ms. Faulty (headerLength + length b) c (stray place)))
+  read-returns-7-exactly place = by-number-and-value call (claims.refusal-7-exactly s rs ps ns slices place) (λ e. omega arith) refl refl refl
+
+  -- 8 with a signature, big-endian: all entries are spelled and have room, and behind them stands an extension that may not
+  pub read-returns-8-exactly : (v : ℕ)
+      → ((code ≡ mandatory) × (value values 0 ≡ v))
+      ↔ (Opened s × Behind s rs ps ns slices (λ b c ms. (signature : List ℕ) × Faulty (headerLength + length b) c (refused signature) × (v ≡ bigEndian signature)))
+  read-returns-8-exactly v = by-number-and-value call (claims.refusal-8-exactly s rs ps ns slices v) (λ e. omega arith) refl refl refl
+
+  -- 9: extensions stand behind the entries, and in the last TREE a node should begin one level below the limit, after no more heads than nodes are lent
+  pub read-returns-9-exactly : (code ≡ too-deep) ↔ (Opened s × BehindIsTREE s rs ps ns slices (λ place body. GoesTooDeep idSize body depthLimit (lent ns)))
+  read-returns-9-exactly = by-number call (claims.refusal-9-exactly s rs ps ns slices) (λ e. omega arith) refl (λ x. refl)
+
+  -- 10: not so, but one should begin after as many heads as nodes are lent
+  pub read-returns-10-exactly : (code ≡ no-node-room)
+      ↔ (Opened s × BehindIsTREE s rs ps ns slices (λ place body. UsesUp idSize body (lent ns) × ¬ GoesTooDeep idSize body depthLimit (lent ns)))
+  read-returns-10-exactly = by-number call (claims.refusal-10-exactly s rs ps ns slices) (λ e. omega arith) refl (λ x. refl)
+
+  -- no other number is ever returned
+  pub read-returns-0-to-10 : code ≤ no-node-room
+  read-returns-0-to-10 = code-small call
+
+  -- a refusal tells one value; the other seven are 0
+  pub read-refusal-tells-one-value : (code ≡ 0 → ⊥) → values ≡ value values 0 ∷ 0 ∷ 0 ∷ 0 ∷ 0 ∷ 0 ∷ 0 ∷ 0 ∷ []
+  read-refusal-tells-one-value = one-value-told call
+
+  -- and whatever is returned, numbers and all three stores are those of one rule of 01's table, "When the desk says no", of which none is left out (`SaysFile` of claims)
+  pub read-answers-by-the-table : (a : Answer) × (code ≡ numberOf a) × (values ≡ readValues a) × SaysFile s rs ps ns (outcome a rs′ ps′ ns′)
+  read-answers-by-the-table = (reading s rs ps ns .answer, number-told call, values-told call, subst (SaysFile s rs ps ns) (left call) (reader.answer-says s rs ps ns slices))
+
+  -- ---- 2. WHAT IT TELLS WHERE IT RETURNED 0: the file has exactly one meaning, and the values are that meaning's version, whether it is sparse, whether it has a tree, how many entries, how
+  -- many bytes of paths and how many nodes it has
+  pub read-tells-the-one-meaning : code ≡ 0 → (m : Index) × File idSize s m × ((o : Index) → File idSize s o → o ≡ m)
+      × (values ≡ m .version ∷ bit (m .sparse) ∷ bit (hasTree (m .tree)) ∷ length (m .entries) ∷ length (pathsBytes (m .entries)) ∷ nodesOf (m .tree) ∷ 0 ∷ 0 ∷ [])
+  read-tells-the-one-meaning e =
+      let (m, x, y, one) = claims.accepted-is-the-one-meaning s rs ps ns slices (zero-is-read call e) in
+      (m, x, one, values-told call ∙ ap readValues (y .answer))
