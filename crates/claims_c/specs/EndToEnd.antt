@@ -4,15 +4,17 @@
 use Prim.Native.Nat.{ℕ, _+_, _≤_, _<_}
 use mathlib.Core.Path.{_≡_, refl, sym, ap, _∙_, subst}
 use mathlib.Core.List.{List, [], _∷_}
-use mathlib.Core.Logic.{_↔_}
+use mathlib.Core.Logic.{_↔_, _⊎_}
 use native.Mathlib.Omega.{arith}
 use lib.ListN.{length, take}
-use Rattle.refusal.specs.Refusal.{short-file, no-signature, other-version, bad-trailer, not-spelled, no-entry-room, not-filled, mandatory, too-deep, no-node-room}
+use Rattle.refusal.specs.Refusal.{short-file, no-signature, other-version, bad-trailer, not-spelled, no-entry-room, not-filled, mandatory, too-deep, no-node-room, no-stage, not-after}
 use Rattle.format.specs.Format.{depthLimit, idSize}
+use Rattle.access.specs.Lookup.{highestStage}
 use Rattle.file.specs.Answer.{numberOf}
 use Rattle.file.specs.Read.{Outcome, outcome}
 use Rattle.file.specs.declared.Answer.{Answer}
 use Rattle.grammar.specs.Number.{bigEndian}
+use Rattle.grammar.specs.Entry.{Meaning}
 use Rattle.grammar.specs.File.{Index, DIRC, headerLength, Supported, File, versionOf, countOf, space, GoodHeader}
 use Rattle.grammar.specs.Fault.{stray, refused, Faulty}
 use Rattle.claims_entries.specs.Rendering.{pathsBytes}
@@ -25,8 +27,11 @@ use Rattle.claims.specs.Claims as claims
 use Rattle.claims.specs.Claims.{TreeFits, hasTree, nodesOf, Behind, BehindIsTREE}
 use Rattle.sparrowpivot.specs.Told.{bit}
 use Rattle.sparrowpivot.specs.Reading.{readValues}
-use Rattle.claims_settled.specs.Exports.{ReadCall}
-use Rattle.claims_c.specs.Numbers.{value, reading, number-told, values-told, left, code-small, zero-is-read, read-is-zero, by-number, by-number-and-value, one-value-told}
+use Rattle.claims_settled.specs.Exports.{ReadCall, RecordCall, record-tells, RecordStatCall, record-stat-tells, RecordIdCall, record-id-tells, LookupCall, CheckOrderCall}
+use Rattle.claims_c.specs.Terms.{value, recordsTold, nodesTold, Stands, stageOf, EntryIs, InOrder, FirstNotAfter, EntryHas}
+use Rattle.claims_c.specs.Numbers.{reading, number-told, values-told, left, code-small, zero-is-read, read-is-zero, by-number, by-number-and-value, one-value-told}
+use Rattle.claims_c.specs.Tables.{path-stands, record-told, stat-told, no-record-told, tables-show, records-are}
+use Rattle.claims_c.specs.Searching as searching
 
 -- ---- 1. WHAT `sparrowpivot_read` RETURNS, AND WHEN
 
@@ -103,3 +108,64 @@ module _ {s rs ps ns values rs′ ps′ ns′ : List ℕ} {code : ℕ} (call : R
   read-tells-the-one-meaning e =
       let (m, x, y, one) = claims.accepted-is-the-one-meaning s rs ps ns slices (zero-is-read call e) in
       (m, x, one, values-told call ∙ ap readValues (y .answer))
+
+-- ---- AFTER A CALL THAT RETURNED 0, on a file that means m (by the sentence before there is such an m, and no other). A caller lends on the records and nodes that were told, of the stores as
+-- they were left, and the path store.
+
+module _ {s rs ps ns values rs′ ps′ ns′ : List ℕ} {code : ℕ} (call : ReadCall s rs ps ns code values rs′ ps′ ns′) (slices : Slices s ps ns) (returned : code ≡ 0) (m : Index) (means : File idSize s m) where
+  -- ---- 3. THE RECORDS
+
+  -- `sparrowpivot_record` tells entry i: mode, flags, stage, where its path starts and ends in the path store, that it lies there, that there is such a record, and the size of its file
+  pub record-tells-the-entry : {i code₁ : ℕ} {values₁ : List ℕ} {e : Meaning} → EntryIs (m .entries) i e → RecordCall (recordsTold values rs′) ps′ i code₁ values₁
+      → (start : ℕ) × (end : ℕ) × (code₁ ≡ 0) × (values₁ ≡ e .stat .mode ∷ e .flags ∷ stageOf e ∷ start ∷ end ∷ 1 ∷ 1 ∷ e .stat .size ∷ []) × Stands ps′ start end (e .path)
+  record-tells-the-entry {i} {e = e} q c =
+      let x = tables-show call slices returned m means .entries i e q in
+      let (a, b) = record-told x (record-tells c) in
+      (x .start, x .start + length (e .path), a, b, path-stands x)
+
+  -- `sparrowpivot_record_stat` tells the rest of its numbers
+  pub record-stat-tells-the-entry : {i code₁ : ℕ} {values₁ : List ℕ} {e : Meaning} → EntryIs (m .entries) i e → RecordStatCall (recordsTold values rs′) i code₁ values₁
+      → (code₁ ≡ 0)
+      × (values₁ ≡ e .stat .ctime ∷ e .stat .ctime-nanos ∷ e .stat .mtime ∷ e .stat .mtime-nanos ∷ e .stat .dev ∷ e .stat .ino ∷ e .stat .uid ∷ e .stat .gid ∷ [])
+  record-stat-tells-the-entry {i} {e = e} q c = stat-told (tables-show call slices returned m means .entries i e q) (record-stat-tells c)
+
+  -- `sparrowpivot_record_id` tells its id
+  pub record-id-tells-the-entry : {i : ℕ} {out′ : List ℕ} {e : Meaning} → EntryIs (m .entries) i e → RecordIdCall (recordsTold values rs′) i out′ → out′ ≡ e .id
+  record-id-tells-the-entry {i} {e = e} q c = record-id-tells c ∙ tables-show call slices returned m means .entries i e q .id
+
+  -- and behind the last entry there is no record: all eight values are 0
+  pub no-record-behind-the-entries : {i code₁ : ℕ} {values₁ : List ℕ} → length (m .entries) ≤ i → RecordCall (recordsTold values rs′) ps′ i code₁ values₁
+      → (code₁ ≡ 0) × (values₁ ≡ 0 ∷ 0 ∷ 0 ∷ 0 ∷ 0 ∷ 0 ∷ 0 ∷ 0 ∷ [])
+  no-record-behind-the-entries {i} h c = no-record-told (recordsTold values rs′) i (omega (arith, records-are call slices returned m means)) ps′ (record-tells c)
+
+  -- ---- 4. ORDER AND LOOKUP, over these records
+
+  -- `sparrowpivot_check_order` returns 0 exactly if the entries are strictly in order
+  pub check-order-returns-0-exactly : {code₁ : ℕ} {values₁ : List ℕ} → CheckOrderCall (recordsTold values rs′) ps′ code₁ values₁ → (code₁ ≡ 0) ↔ InOrder (m .entries)
+  check-order-returns-0-exactly c = searching.order-0-exactly c (m .entries) (tables-show call slices returned m means .entries) (records-are call slices returned m means)
+
+  -- 13 with i exactly when entry i is the first that does not come strictly after the one before
+  pub check-order-returns-13-exactly : {code₁ : ℕ} {values₁ : List ℕ} → CheckOrderCall (recordsTold values rs′) ps′ code₁ values₁ → (i : ℕ)
+      → ((code₁ ≡ not-after) × (value values₁ 0 ≡ i)) ↔ FirstNotAfter (m .entries) i
+  check-order-returns-13-exactly c = searching.order-13-exactly c (m .entries) (tables-show call slices returned m means .entries) (records-are call slices returned m means)
+
+  -- and nothing else: no path of what was read lies outside
+  pub check-order-returns-0-or-13 : {code₁ : ℕ} {values₁ : List ℕ} → CheckOrderCall (recordsTold values rs′) ps′ code₁ values₁ → (code₁ ≡ 0) ⊎ (code₁ ≡ not-after)
+  check-order-returns-0-or-13 c = searching.order-0-or-13 c (m .entries) (tables-show call slices returned m means .entries) (records-are call slices returned m means)
+
+  -- `sparrowpivot_lookup` returns 11 exactly if a stage above 3 is looked for
+  pub lookup-returns-11-exactly : {key : List ℕ} {stage code₁ : ℕ} {values₁ : List ℕ} → LookupCall (recordsTold values rs′) ps′ key stage code₁ values₁ → (code₁ ≡ no-stage) ↔ (highestStage < stage)
+  lookup-returns-11-exactly c = searching.lookup-11-exactly c
+
+  module _ (order : InOrder (m .entries)) {key : List ℕ} {stage code₁ : ℕ} {values₁ : List ℕ} (c : LookupCall (recordsTold values rs′) ps′ key stage code₁ values₁) (small : stage ≤ highestStage) where
+    -- if the entries are in order, at stages 0 to 3 it returns 0
+    pub lookup-returns-0 : code₁ ≡ 0
+    lookup-returns-0 = searching.lookup-0 c (m .entries) (tables-show call slices returned m means .entries) (records-are call slices returned m means) order small
+
+    -- tells 1 and i exactly if entry i has that path and stage
+    pub lookup-tells-i-exactly : (i : ℕ) → ((value values₁ 0 ≡ 1) × (value values₁ 1 ≡ i)) ↔ EntryHas (m .entries) key stage i
+    lookup-tells-i-exactly = searching.lookup-finds-exactly c (m .entries) (tables-show call slices returned m means .entries) (records-are call slices returned m means) order small
+
+    -- and 0 exactly if no entry has them
+    pub lookup-tells-none-exactly : (value values₁ 0 ≡ 0) ↔ ((i : ℕ) → ¬ EntryHas (m .entries) key stage i)
+    lookup-tells-none-exactly = searching.lookup-finds-none-exactly c (m .entries) (tables-show call slices returned m means .entries) (records-are call slices returned m means) order small

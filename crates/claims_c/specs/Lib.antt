@@ -1,3 +1,7 @@
--- The modules of claims_c: `EndToEnd` is to be read. `Numbers` goes from what a call of `sparrowpivot_read` tells back to its answer.
+-- The modules of claims_c: `Terms` and `EndToEnd` are to be read. `Numbers` goes from what a call tells back to its answer, `Tables` from what a meaning's tables show to what is told of them,
+-- `Searching` from there to order and lookup.
+pub mod Terms
 pub mod Numbers
+pub mod Tables
+pub mod Searching
 pub mod EndToEnd

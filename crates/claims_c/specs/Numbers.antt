@@ -7,7 +7,6 @@ use mathlib.Core.List.{List, [], _∷_}
 use mathlib.Core.Logic.{_↔_}
 use native.Mathlib.Omega.{arith}
 use lib.Dec.{eqb, lit≤}
-use lib.ListN.{getD}
 use Rattle.laws.specs.Pick.{pick}
 use Rattle.refusal.specs.Refusal.{short-file, no-signature, other-version, bad-trailer, not-spelled, no-entry-room, not-filled, mandatory, too-deep, no-node-room}
 use Rattle.format.specs.Format.{depthLimit, idSize}
@@ -19,10 +18,7 @@ use Rattle.claims.specs.Claims.{IsRead}
 use Rattle.sparrowpivot.specs.Told.{Told, one}
 use Rattle.sparrowpivot.specs.Reading.{readValues}
 use Rattle.claims_settled.specs.Exports.{ReadCall, read-tells}
-
--- `values[k]`
-abbrev pub value : List ℕ → ℕ → ℕ
-value values k = getD values k 0
+use Rattle.claims_c.specs.Terms.{value}
 
 -- ---- an answer by its number and its first value
 
