@@ -5,20 +5,24 @@ use Prim.Native.Nat.{ℕ, _+_, _≤_, _<_}
 use mathlib.Core.Path.{_≡_, refl, sym, ap, _∙_, subst}
 use mathlib.Core.List.{List, [], _∷_}
 use mathlib.Core.Logic.{_↔_, _⊎_}
+use mathlib.Core.Option.{none, some}
 use native.Mathlib.Omega.{arith}
 use lib.ListN.{length, take}
 use Rattle.refusal.specs.Refusal.{short-file, no-signature, other-version, bad-trailer, not-spelled, no-entry-room, not-filled, mandatory, too-deep, no-node-room, no-stage, not-after}
 use Rattle.format.specs.Format.{depthLimit, idSize}
+use Rattle.node.specs.Store.{nodesIn}
 use Rattle.access.specs.Lookup.{highestStage}
 use Rattle.file.specs.Answer.{numberOf}
 use Rattle.file.specs.Read.{Outcome, outcome}
 use Rattle.file.specs.declared.Answer.{Answer}
 use Rattle.grammar.specs.Number.{bigEndian}
 use Rattle.grammar.specs.Entry.{Meaning}
+use Rattle.grammar.specs.Tree.{Tree}
 use Rattle.grammar.specs.File.{Index, DIRC, headerLength, Supported, File, versionOf, countOf, space, GoodHeader}
 use Rattle.grammar.specs.Fault.{stray, refused, Faulty}
 use Rattle.claims_entries.specs.Rendering.{pathsBytes}
 use Rattle.claims_entries.specs.Said.{StopsAt, RoomFor, LacksRoomAt}
+use Rattle.claims_tree.specs.Rendering.{countWord}
 use Rattle.claims_tree.specs.Said.{lent, GoesTooDeep, UsesUp}
 use Rattle.claims.specs.Premises.{Slices, GoodTrailer}
 use Rattle.claims.specs.Said.{Opened, SaysFile}
@@ -27,10 +31,11 @@ use Rattle.claims.specs.Claims as claims
 use Rattle.claims.specs.Claims.{TreeFits, hasTree, nodesOf, Behind, BehindIsTREE}
 use Rattle.sparrowpivot.specs.Told.{bit}
 use Rattle.sparrowpivot.specs.Reading.{readValues}
-use Rattle.claims_settled.specs.Exports.{ReadCall, RecordCall, record-tells, RecordStatCall, record-stat-tells, RecordIdCall, record-id-tells, LookupCall, CheckOrderCall}
-use Rattle.claims_c.specs.Terms.{value, recordsTold, nodesTold, Stands, stageOf, EntryIs, InOrder, FirstNotAfter, EntryHas}
+use Rattle.claims_settled.specs.Exports.{ReadCall, RecordCall, record-tells, RecordStatCall, record-stat-tells, RecordIdCall, record-id-tells, NodeCall, node-tells, NodeIdCall, node-id-tells, LookupCall, CheckOrderCall}
+use Rattle.claims_c.specs.Terms.{value, recordsTold, nodesTold, Stands, stageOf, EntryIs, InOrder, FirstNotAfter, EntryHas, Row, rows, RowIs, parentWord, idTold}
 use Rattle.claims_c.specs.Numbers.{reading, number-told, values-told, left, code-small, zero-is-read, read-is-zero, by-number, by-number-and-value, one-value-told}
-use Rattle.claims_c.specs.Tables.{path-stands, record-told, stat-told, no-record-told, tables-show, records-are}
+use Rattle.claims_c.specs.Tables.{path-stands, record-told, stat-told, no-record-told, meaning-told, tables-show, records-are, nodes-are}
+use Rattle.claims_c.specs.Rows.{row-within, rows-many, rows-shown, row-spelled, name-stands, node-told, node-id-told, no-node-told}
 use Rattle.claims_c.specs.Searching as searching
 
 -- ---- 1. WHAT `sparrowpivot_read` RETURNS, AND WHEN
@@ -138,7 +143,35 @@ module _ {s rs ps ns values rs′ ps′ ns′ : List ℕ} {code : ℕ} (call : R
       → (code₁ ≡ 0) × (values₁ ≡ 0 ∷ 0 ∷ 0 ∷ 0 ∷ 0 ∷ 0 ∷ 0 ∷ 0 ∷ [])
   no-record-behind-the-entries {i} h c = no-record-told (recordsTold values rs′) i (omega (arith, records-are call slices returned m means)) ps′ (record-tells c)
 
-  -- ---- 4. ORDER AND LOOKUP, over these records
+  -- ---- 4. THE NODES, where the meaning has a tree: its rows are its nodes in file order, each with its parent's number (`rows`)
+  module _ (t : Tree) (has : m .tree ≡ some t) where
+    -- as many as `values[5]` tells
+    pub nodes-told-are-the-rows : length (rows t) ≡ value values 5
+    nodes-told-are-the-rows = rows-many t none 0 ∙ sym (ap nodesOf has) ∙ sym (ap (λ (l : List ℕ). value l 5) (meaning-told call slices returned m means))
+
+    there : {i : ℕ} {r : Row} → RowIs (rows t) i r → i < nodesIn (nodesTold values ns′)
+    there {i} {r} q = omega (arith, row-within (rows t) i r q, rows-many t none 0, ap nodesOf has, nodes-are call slices returned m means)
+
+    -- `sparrowpivot_node` tells row i: where its name starts and ends in the file, how many entries it covers (two's complement), how many subtrees it has, its parent's number (all ones for
+    -- the root), and that there is such a node
+    pub node-tells-the-row : {i code₁ : ℕ} {values₁ : List ℕ} {r : Row} → RowIs (rows t) i r → NodeCall (nodesTold values ns′) i code₁ values₁
+        → (code₁ ≡ 0) × (values₁ ≡ r .place ∷ (r .place + length (r .name)) ∷ countWord (r .count) ∷ r .subtrees ∷ parentWord (r .parent) ∷ 1 ∷ 0 ∷ 0 ∷ []) × Stands s (r .place) (r .place + length (r .name)) (r .name)
+    node-tells-the-row {i} {r = r} q c =
+        let x = rows-shown s (nodesTold values ns′) t (tables-show call slices returned m means .tree t has) i r q in
+        let y = row-spelled means has i r q in
+        let (a, b) = node-told (there q) x y (node-tells c) in
+        (a, b, name-stands (there q) x y)
+
+    -- `sparrowpivot_node_id` tells its id, zeros where it is invalid
+    pub node-id-tells-the-row : {i : ℕ} {out′ : List ℕ} {r : Row} → RowIs (rows t) i r → NodeIdCall (nodesTold values ns′) i out′ → out′ ≡ idTold (r .count) (r .id)
+    node-id-tells-the-row {i} {r = r} q c =
+        node-id-tells c ∙ node-id-told (there q) (rows-shown s (nodesTold values ns′) t (tables-show call slices returned m means .tree t has) i r q) (row-spelled means has i r q)
+
+  -- and behind the last node, and where the meaning has no tree, there is no node: all eight values are 0
+  pub no-node-behind-the-tree : {i code₁ : ℕ} {values₁ : List ℕ} → nodesOf (m .tree) ≤ i → NodeCall (nodesTold values ns′) i code₁ values₁ → (code₁ ≡ 0) × (values₁ ≡ 0 ∷ 0 ∷ 0 ∷ 0 ∷ 0 ∷ 0 ∷ 0 ∷ 0 ∷ [])
+  no-node-behind-the-tree {i} h c = no-node-told (nodesTold values ns′) i (omega (arith, nodes-are call slices returned m means)) (node-tells c)
+
+  -- ---- 5. ORDER AND LOOKUP, over these records
 
   -- `sparrowpivot_check_order` returns 0 exactly if the entries are strictly in order
   pub check-order-returns-0-exactly : {code₁ : ℕ} {values₁ : List ℕ} → CheckOrderCall (recordsTold values rs′) ps′ code₁ values₁ → (code₁ ≡ 0) ↔ InOrder (m .entries)

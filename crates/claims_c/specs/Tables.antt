@@ -85,7 +85,7 @@ module _ {s rs ps ns values rs′ ps′ ns′ : List ℕ} {code : ℕ} (call : R
   -- the tables that a caller lends on show it
   pub tables-show : ShowsIndex s (recordsTold values rs′) ps′ (nodesTold values ns′) m
   tables-show =
-      let (o, x, y, one, shown) = accepted-is-shown s rs ps ns slices (zero-is-read call returned) in
+      let (o, x, one, y, shown) = accepted-is-shown s rs ps ns slices (zero-is-read call returned) in
       let all : ShowsIndex s rs′ ps′ ns′ m =
       subst (ShowsIndex s rs′ ps′ ns′) (sym (one m means)) (subst (λ (u : Outcome). ShowsIndex s (u .records) (u .paths) (u .nodes) o) (left call) shown) in
       let n : length (m .entries) ≡ value values 3 = sym (ap (λ (l : List ℕ). value l 3) meaning-told) in
@@ -97,11 +97,9 @@ module _ {s rs ps ns values rs′ ps′ ns′ : List ℕ} {code : ℕ} (call : R
   pub records-are : recordsIn (recordsTold values rs′) ≡ length (m .entries)
   records-are =
       let n : value values 3 ≡ length (m .entries) = ap (λ (l : List ℕ). value l 3) meaning-told in
-      let most : length (recordsTold values rs′) ≤ value values 3 * recordSize = omega (arith, length-take (value values 3 * recordSize) rs′) in
-      ⊎-elim
-      (λ (h : 0 < length (m .entries)).
-      let (e, q) = meaning-at (m .entries) (length (m .entries) - 1) (omega arith) in
-      let there = tables-show .entries (length (m .entries) - 1) e q .there in
-      omega (arith, there))
-      (λ h. omega arith)
-      (lt-or-ge 0 (length (m .entries)))
+      omega (arith, length-take (value values 3 * recordSize) rs′, tables-show .records)
+
+  pub nodes-are : nodesIn (nodesTold values ns′) ≡ nodesOf (m .tree)
+  nodes-are =
+      let n : value values 5 ≡ nodesOf (m .tree) = ap (λ (l : List ℕ). value l 5) meaning-told in
+      omega (arith, length-take (value values 5 * nodeSize) ns′, tables-show .nodes)
