@@ -1,15 +1,20 @@
 -- END TO END FOR C: what a C program gets from the exported functions. A call enters by what Rattle itself reads out of the function's contract (`ReadCall` and the like, of `claims_settled`),
 -- so each sentence is about the code. A meaning is the grammar's: `File idSize s m` says that the bytes s spell the index m. `values` are the eight numbers, `value values k` is `values[k]`.
 -- Stores with a dash are as the call left them. Premises are named: `Slices` (the file is bytes, and no slice has 2^64 bytes or more) throughout; each other one stands where it is needed.
-use Prim.Native.Nat.{ℕ, _+_, _≤_, _<_}
+use Prim.Native.Nat.{ℕ, _+_, _^_, _≤_, _<_}
 use mathlib.Core.Path.{_≡_, refl, sym, ap, _∙_, subst}
+use mathlib.Core.Bool.{false}
 use mathlib.Core.List.{List, [], _∷_}
 use mathlib.Core.Logic.{_↔_, _⊎_}
 use mathlib.Core.Option.{none, some}
 use native.Mathlib.Omega.{arith}
-use lib.ListN.{length, take}
+use lib.ListN.{length, take, getElem?}
+use Rattle.laws.specs.Pick.{pick}
 use Rattle.refusal.specs.Refusal.{short-file, no-signature, other-version, bad-trailer, not-spelled, no-entry-room, not-filled, mandatory, too-deep, no-node-room, no-stage, not-after}
 use Rattle.format.specs.Format.{depthLimit, idSize}
+use Rattle.entry.specs.Flags.{stageRaw, keepFlags}
+use Rattle.entry.specs.Record.{recordsIn, flagsAt, stageAt, pathAt}
+use Rattle.entry.specs.Stat.{statAt}
 use Rattle.node.specs.Store.{nodesIn}
 use Rattle.access.specs.Lookup.{highestStage}
 use Rattle.file.specs.Answer.{numberOf}
@@ -29,14 +34,22 @@ use Rattle.claims.specs.Said.{Opened, SaysFile}
 use Rattle.claims.specs.Reading as reader
 use Rattle.claims.specs.Claims as claims
 use Rattle.claims.specs.Claims.{TreeFits, hasTree, nodesOf, Behind, BehindIsTREE}
-use Rattle.sparrowpivot.specs.Told.{bit}
+use Rattle.sparrowpivot.specs.Told.{Told, bit}
+use Rattle.sparrowpivot.specs.Writing.{optionsFrom}
 use Rattle.sparrowpivot.specs.Reading.{readValues}
-use Rattle.claims_settled.specs.Exports.{ReadCall, RecordCall, record-tells, RecordStatCall, record-stat-tells, RecordIdCall, record-id-tells, NodeCall, node-tells, NodeIdCall, node-id-tells, LookupCall, CheckOrderCall}
-use Rattle.claims_c.specs.Terms.{value, recordsTold, nodesTold, Stands, stageOf, EntryIs, InOrder, FirstNotAfter, EntryHas, Row, rows, RowIs, parentWord, idTold}
+use Rattle.write.specs.Entries.{isGone}
+use Rattle.write.specs.File.{writesTree}
+use Rattle.claims_write.specs.Meaning.{statOf, meaningOf, keptOf, PathsEnd, WritableTable, NoneRemoved}
+use Rattle.claims_write.specs.Spelled.{indexOf}
+use Rattle.claims_write.specs.Kept.{at-map, kept-here, kept-length}
+use Rattle.claims_write.specs.Claims.{Roomy, writable-ends}
+use Rattle.claims_settled.specs.Exports.{ReadCall, RecordCall, record-tells, RecordStatCall, record-stat-tells, RecordIdCall, record-id-tells, NodeCall, node-tells, NodeIdCall, node-id-tells, LookupCall, CheckOrderCall, WriteCall}
+use Rattle.claims_c.specs.Terms.{value, recordsTold, nodesTold, Stands, stageOf, EntryIs, InOrder, FirstNotAfter, EntryHas, Row, rows, RowIs, parentWord, idTold, treeAsked}
 use Rattle.claims_c.specs.Numbers.{reading, number-told, values-told, left, code-small, zero-is-read, read-is-zero, by-number, by-number-and-value, one-value-told}
 use Rattle.claims_c.specs.Tables.{path-stands, record-told, stat-told, no-record-told, meaning-told, tables-show, records-are, nodes-are}
 use Rattle.claims_c.specs.Rows.{row-within, rows-many, rows-shown, row-spelled, name-stands, node-told, node-id-told, no-node-told}
 use Rattle.claims_c.specs.Searching as searching
+use Rattle.claims_c.specs.ReadBack.{written-means, written-path, read-back-told, written-mode, written-flags}
 
 -- ---- 1. WHAT `sparrowpivot_read` RETURNS, AND WHEN
 
@@ -202,3 +215,67 @@ module _ {s rs ps ns values rs′ ps′ ns′ : List ℕ} {code : ℕ} (call : R
     -- and 0 exactly if no entry has them
     pub lookup-tells-none-exactly : (value values₁ 0 ≡ 0) ↔ ((i : ℕ) → ¬ EntryHas (m .entries) key stage i)
     lookup-tells-none-exactly = searching.lookup-finds-none-exactly c (m .entries) (tables-show call slices returned m means .entries) (records-are call slices returned m means) order small
+
+-- ---- 6. WHAT `sparrowpivot_write` WROTE, `sparrowpivot_read` READS BACK. A call that wrote returned 0 and told version and size, `values[0]` and `values[1]`; a second call reads the first `size`
+-- bytes of its output, with stores that are large enough (`Roomy`)
+
+module _ {rs ps ns nm out values out′ : List ℕ} {options code : ℕ} (wrote : WriteCall rs ps ns nm options out code values out′) (returned : code ≡ 0) (few : length ns < 2 ^ 64)
+    {records paths nodes values₁ rs′ ps′ ns′ : List ℕ} {code₁ : ℕ} (call : ReadCall (take (value values 1) out′) records paths nodes code₁ values₁ rs′ ps′ ns′)
+    (slices : Slices (take (value values 1) out′) paths nodes) (roomy : Roomy rs ps ns (optionsFrom options) records paths nodes) where
+  -- it returns 0, with the version that was told, as many records as the table has that are not marked REMOVE, and a tree of as many nodes as the node table has exactly if one was given and
+  -- asked for; of the paths is asked only that one whose length cannot be stated holds no NUL
+  pub written-reads-back : PathsEnd rs ps
+      → (code₁ ≡ 0) × (value values₁ 0 ≡ value values 0) × (value values₁ 3 ≡ length (keptOf rs)) × (value values₁ 2 ≡ bit (treeAsked options)) × (value values₁ 5 ≡ pick (treeAsked options) (nodesIn ns) 0)
+  unfolding writesTree
+  written-reads-back ends =
+      let (zero, told) = read-back-told wrote returned few ends records paths nodes slices roomy call in
+      (zero, ap (λ (l : List ℕ). value l 0) told, ap (λ (l : List ℕ). value l 3) told, ap (λ (l : List ℕ). value l 2) told, ap (λ (l : List ℕ). value l 5) told)
+
+  -- and of a table that loses nothing by being written (`WritableTable`), what is told of record j that was read is what is told of the j-th record that was written
+  module _ (fit : WritableTable rs ps) (i j : ℕ) (kept : getElem? (keptOf rs) j ≡ some i) where
+    zero-returned : code₁ ≡ 0
+    zero-returned = read-back-told wrote returned few (writable-ends rs ps fit) records paths nodes slices roomy call .0
+
+    means : File idSize (take (value values 1) out′) (indexOf rs ps ns nm (optionsFrom options))
+    means = written-means wrote returned (writable-ends rs ps fit)
+
+    entry : EntryIs (indexOf rs ps ns nm (optionsFrom options) .entries) j (meaningOf idSize rs ps i)
+    entry = at-map (meaningOf idSize rs ps) (keptOf rs) j i kept
+
+    -- mode, stage and size; the flags that are kept; and the same path, which lies in both path stores
+    pub record-reads-back : {code₂ code₃ : ℕ} {values₂ values₃ : List ℕ} → RecordCall rs ps i code₂ values₂ → RecordCall (recordsTold values₁ rs′) ps′ j code₃ values₃
+        → (start end : ℕ) × (path : List ℕ) × (values₃ ≡ value values₂ 0 ∷ keepFlags (value values₂ 1) ∷ value values₂ 2 ∷ start ∷ end ∷ 1 ∷ 1 ∷ value values₂ 7 ∷ [])
+        × Stands ps (value values₂ 3) (value values₂ 4) path × Stands ps′ start end path
+    unfolding statOf
+    record-reads-back b c =
+        let (start, end, z, v, p) = record-tells-the-entry call slices zero-returned (indexOf rs ps ns nm (optionsFrom options)) means entry c in
+        let w = ap (λ (t : Told). t .values) (record-tells b) in
+        let f = written-flags wrote returned few (writable-ends rs ps fit) records paths nodes slices roomy fit j i kept in
+        let m = written-mode wrote returned few (writable-ends rs ps fit) records paths nodes slices roomy fit j i kept in
+        let g : stageRaw (keepFlags (flagsAt rs i)) ≡ stageAt rs i = omega arith in (
+          start,
+          end,
+          pathAt rs ps i,
+          v ∙ (λ k. m k ∷ f k ∷ (ap stageRaw f ∙ g) k ∷ start ∷ end ∷ 1 ∷ 1 ∷ statAt rs i .size ∷ [])
+              ∙ sym (ap (λ (l : List ℕ). value l 0 ∷ keepFlags (value l 1) ∷ value l 2 ∷ start ∷ end ∷ 1 ∷ 1 ∷ value l 7 ∷ []) w),
+          subst (λ (l : List ℕ). Stands ps (value l 3) (value l 4) (pathAt rs ps i)) (sym w) (written-path wrote returned j i kept),
+          p,
+        )
+
+    -- the eight other numbers
+    pub record-stat-reads-back : {code₂ code₃ : ℕ} {values₂ values₃ : List ℕ} → RecordStatCall rs i code₂ values₂ → RecordStatCall (recordsTold values₁ rs′) j code₃ values₃ → values₃ ≡ values₂
+    unfolding statOf
+    record-stat-reads-back b c =
+        record-stat-tells-the-entry call slices zero-returned (indexOf rs ps ns nm (optionsFrom options)) means entry c .1 ∙ sym (ap (λ (t : Told). t .values) (record-stat-tells b))
+
+    -- and the id
+    pub record-id-reads-back : {out₂ out₃ : List ℕ} → RecordIdCall rs i out₂ → RecordIdCall (recordsTold values₁ rs′) j out₃ → out₃ ≡ out₂
+    record-id-reads-back b c = record-id-tells-the-entry call slices zero-returned (indexOf rs ps ns nm (optionsFrom options)) means entry c ∙ sym (record-id-tells b)
+
+-- with none marked REMOVE every record is written, record i as the i-th
+pub unmarked-are-all-written : (rs : List ℕ) → NoneRemoved rs → (length (keptOf rs) ≡ recordsIn rs) × ((i : ℕ) → i < recordsIn rs → getElem? (keptOf rs) i ≡ some i)
+unmarked-are-all-written rs stays =
+    let all : (i : ℕ) → 0 ≤ i → i < 0 + recordsIn rs → isGone rs i ≡ false = λ i a b. stays i (omega arith) in (
+      kept-length rs (recordsIn rs) 0 all,
+      (λ i h. let e : 0 + i ≡ i = omega arith in subst (λ (k : ℕ). getElem? (keptOf rs) i ≡ some k) e (kept-here rs (recordsIn rs) 0 all i h)),
+    )
