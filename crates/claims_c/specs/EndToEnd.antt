@@ -6,20 +6,21 @@ use mathlib.Core.Path.{_≡_, refl, sym, ap, _∙_, subst}
 use mathlib.Core.Bool.{false}
 use mathlib.Core.List.{List, [], _∷_}
 use mathlib.Core.Logic.{_↔_, _⊎_}
-use mathlib.Core.Option.{none, some}
+use mathlib.Core.Option.{some}
 use native.Mathlib.Omega.{arith}
-use lib.ListN.{length, take, getElem?}
+use lib.ListN.{length, take, replicate, getElem?}
 use Rattle.laws.specs.Pick.{pick}
 use Rattle.refusal.specs.Refusal.{short-file, no-signature, other-version, bad-trailer, not-spelled, no-entry-room, not-filled, mandatory, too-deep, no-node-room, no-stage, not-after}
 use Rattle.format.specs.Format.{depthLimit, idSize}
-use Rattle.entry.specs.Flags.{stageRaw, keepFlags}
-use Rattle.entry.specs.Record.{recordsIn, flagsAt, stageAt, pathAt}
-use Rattle.entry.specs.Stat.{statAt}
+use Rattle.entry.specs.Flags.{keepFlags}
+use Rattle.entry.specs.Record.{recordsIn}
 use Rattle.node.specs.Store.{nodesIn}
 use Rattle.access.specs.Lookup.{highestStage}
 use Rattle.file.specs.Answer.{numberOf}
-use Rattle.file.specs.Read.{Outcome, outcome}
+use Rattle.file.specs.Read.{outcome}
 use Rattle.file.specs.declared.Answer.{Answer}
+use Rattle.write.specs.Entries.{isGone}
+use Rattle.write.specs.File.{writesTree}
 use Rattle.grammar.specs.Number.{bigEndian}
 use Rattle.grammar.specs.Entry.{Meaning}
 use Rattle.grammar.specs.Tree.{Tree}
@@ -34,22 +35,19 @@ use Rattle.claims.specs.Said.{Opened, SaysFile}
 use Rattle.claims.specs.Reading as reader
 use Rattle.claims.specs.Claims as claims
 use Rattle.claims.specs.Claims.{TreeFits, hasTree, nodesOf, Behind, BehindIsTREE}
-use Rattle.sparrowpivot.specs.Told.{Told, bit}
-use Rattle.sparrowpivot.specs.Writing.{optionsFrom}
-use Rattle.sparrowpivot.specs.Reading.{readValues}
-use Rattle.write.specs.Entries.{isGone}
-use Rattle.write.specs.File.{writesTree}
-use Rattle.claims_write.specs.Meaning.{statOf, meaningOf, keptOf, PathsEnd, WritableTable, NoneRemoved}
-use Rattle.claims_write.specs.Spelled.{indexOf}
-use Rattle.claims_write.specs.Kept.{at-map, kept-here, kept-length}
+use Rattle.claims_write.specs.Meaning.{keptOf, PathsEnd, WritableTable, NoneRemoved}
+use Rattle.claims_write.specs.Kept.{kept-here, kept-length}
 use Rattle.claims_write.specs.Claims.{Roomy, writable-ends}
-use Rattle.claims_settled.specs.Exports.{ReadCall, RecordCall, record-tells, RecordStatCall, record-stat-tells, RecordIdCall, record-id-tells, NodeCall, node-tells, NodeIdCall, node-id-tells, LookupCall, CheckOrderCall, WriteCall}
+use Rattle.sparrowpivot.specs.Told.{bit}
+use Rattle.sparrowpivot.specs.Reading.{readValues}
+use Rattle.sparrowpivot.specs.Writing.{optionsFrom}
+use Rattle.claims_settled.specs.Exports.{ReadCall, WriteCall, LookupCall, CheckOrderCall, RecordCall, record-tells, RecordStatCall, record-stat-tells, RecordIdCall, record-id-tells, NodeCall, node-tells, NodeIdCall, node-id-tells}
 use Rattle.claims_c.specs.Terms.{value, recordsTold, nodesTold, Stands, stageOf, EntryIs, InOrder, FirstNotAfter, EntryHas, Row, rows, RowIs, parentWord, idTold, treeAsked}
-use Rattle.claims_c.specs.Numbers.{reading, number-told, values-told, left, code-small, zero-is-read, read-is-zero, by-number, by-number-and-value, one-value-told}
-use Rattle.claims_c.specs.Tables.{path-stands, record-told, stat-told, no-record-told, meaning-told, tables-show, records-are, nodes-are}
-use Rattle.claims_c.specs.Rows.{row-within, rows-many, rows-shown, row-spelled, name-stands, node-told, node-id-told, no-node-told}
+use Rattle.claims_c.specs.Numbers.{reading, number-told, values-told, left, code-small, zero-is-read, read-is-zero, by-number, by-number-and-value, one-value-told, nothing-told}
+use Rattle.claims_c.specs.Rows.{name-stands, node-told, node-id-told, no-node-told}
+use Rattle.claims_c.specs.Tables.{path-stands, record-told, stat-told, no-record-told, no-stat-told, no-id-told, tables-show, records-are, nodes-are, row-told, rows-told}
 use Rattle.claims_c.specs.Searching as searching
-use Rattle.claims_c.specs.ReadBack.{written-means, written-path, read-back-told, written-mode, written-flags}
+use Rattle.claims_c.specs.ReadBack.{read-back-told, record-back, stat-back, id-back}
 
 -- ---- 1. WHAT `sparrowpivot_read` RETURNS, AND WHEN
 
@@ -115,6 +113,11 @@ module _ {s rs ps ns values rs′ ps′ ns′ : List ℕ} {code : ℕ} (call : R
   pub read-refusal-tells-one-value : (code ≡ 0 → ⊥) → values ≡ value values 0 ∷ 0 ∷ 0 ∷ 0 ∷ 0 ∷ 0 ∷ 0 ∷ 0 ∷ []
   read-refusal-tells-one-value = one-value-told call
 
+  -- and that one is 0 too but for 3, 5, 6, 7 and 8
+  pub read-refusal-that-names-nothing-tells-0 : (code ≡ 0 → ⊥) → (code ≡ other-version → ⊥) → (code ≡ not-spelled → ⊥) → (code ≡ no-entry-room → ⊥) → (code ≡ not-filled → ⊥)
+      → (code ≡ mandatory → ⊥) → value values 0 ≡ 0
+  read-refusal-that-names-nothing-tells-0 = nothing-told call
+
   -- and whatever is returned, numbers and all three stores are those of one rule of 01's table, "When the desk says no", of which none is left out (`SaysFile` of claims)
   pub read-answers-by-the-table : (a : Answer) × (code ≡ numberOf a) × (values ≡ readValues a) × SaysFile s rs ps ns (outcome a rs′ ps′ ns′)
   read-answers-by-the-table = (reading s rs ps ns .answer, number-told call, values-told call, subst (SaysFile s rs ps ns) (left call) (reader.answer-says s rs ps ns slices))
@@ -130,7 +133,8 @@ module _ {s rs ps ns values rs′ ps′ ns′ : List ℕ} {code : ℕ} (call : R
 -- ---- AFTER A CALL THAT RETURNED 0, on a file that means m (by the sentence before there is such an m, and no other). A caller lends on the records and nodes that were told, of the stores as
 -- they were left, and the path store.
 
-module _ {s rs ps ns values rs′ ps′ ns′ : List ℕ} {code : ℕ} (call : ReadCall s rs ps ns code values rs′ ps′ ns′) (slices : Slices s ps ns) (returned : code ≡ 0) (m : Index) (means : File idSize s m) where
+module _ {s rs ps ns values rs′ ps′ ns′ : List ℕ} {code : ℕ} (call : ReadCall s rs ps ns code values rs′ ps′ ns′) (slices : Slices s ps ns) (returned : code ≡ 0)
+    (m : Index) (means : File idSize s m) where
   -- ---- 3. THE RECORDS
 
   -- `sparrowpivot_record` tells entry i: mode, flags, stage, where its path starts and ends in the path store, that it lies there, that there is such a record, and the size of its file
@@ -151,37 +155,41 @@ module _ {s rs ps ns values rs′ ps′ ns′ : List ℕ} {code : ℕ} (call : R
   pub record-id-tells-the-entry : {i : ℕ} {out′ : List ℕ} {e : Meaning} → EntryIs (m .entries) i e → RecordIdCall (recordsTold values rs′) i out′ → out′ ≡ e .id
   record-id-tells-the-entry {i} {e = e} q c = record-id-tells c ∙ tables-show call slices returned m means .entries i e q .id
 
-  -- and behind the last entry there is no record: all eight values are 0
+  -- and behind the last entry there is no record: all is 0
   pub no-record-behind-the-entries : {i code₁ : ℕ} {values₁ : List ℕ} → length (m .entries) ≤ i → RecordCall (recordsTold values rs′) ps′ i code₁ values₁
-      → (code₁ ≡ 0) × (values₁ ≡ 0 ∷ 0 ∷ 0 ∷ 0 ∷ 0 ∷ 0 ∷ 0 ∷ 0 ∷ [])
+      → (code₁ ≡ 0) × (values₁ ≡ replicate 8 0)
   no-record-behind-the-entries {i} h c = no-record-told (recordsTold values rs′) i (omega (arith, records-are call slices returned m means)) ps′ (record-tells c)
 
-  -- ---- 4. THE NODES, where the meaning has a tree: its rows are its nodes in file order, each with its parent's number (`rows`)
-  module _ (t : Tree) (has : m .tree ≡ some t) where
-    -- as many as `values[5]` tells
-    pub nodes-told-are-the-rows : length (rows t) ≡ value values 5
-    nodes-told-are-the-rows = rows-many t none 0 ∙ sym (ap nodesOf has) ∙ sym (ap (λ (l : List ℕ). value l 5) (meaning-told call slices returned m means))
+  pub no-record-stat-behind-the-entries : {i code₁ : ℕ} {values₁ : List ℕ} → length (m .entries) ≤ i → RecordStatCall (recordsTold values rs′) i code₁ values₁
+      → (code₁ ≡ 0) × (values₁ ≡ replicate 8 0)
+  no-record-stat-behind-the-entries {i} h c = no-stat-told (recordsTold values rs′) i (omega (arith, records-are call slices returned m means)) (record-stat-tells c)
 
-    there : {i : ℕ} {r : Row} → RowIs (rows t) i r → i < nodesIn (nodesTold values ns′)
-    there {i} {r} q = omega (arith, row-within (rows t) i r q, rows-many t none 0, ap nodesOf has, nodes-are call slices returned m means)
+  pub no-record-id-behind-the-entries : {i : ℕ} {out′ : List ℕ} → length (m .entries) ≤ i → RecordIdCall (recordsTold values rs′) i out′ → out′ ≡ replicate idSize 0
+  no-record-id-behind-the-entries {i} h c = record-id-tells c ∙ no-id-told (recordsTold values rs′) i (omega (arith, records-are call slices returned m means))
+
+  -- ---- 4. THE NODES, where the meaning has a tree: its rows are its nodes in file order, each with its parent's number (`rows`)
+
+  module _ (t : Tree) (has : m .tree ≡ some t) where
+    -- there are as many as `values[5]` tells
+    pub nodes-told-are-the-rows : length (rows t) ≡ value values 5
+    nodes-told-are-the-rows = rows-told call slices returned m means t has
 
     -- `sparrowpivot_node` tells row i: where its name starts and ends in the file, how many entries it covers (two's complement), how many subtrees it has, its parent's number (all ones for
-    -- the root), and that there is such a node
+    -- the root), and that there is such a node; and the file has its name there
     pub node-tells-the-row : {i code₁ : ℕ} {values₁ : List ℕ} {r : Row} → RowIs (rows t) i r → NodeCall (nodesTold values ns′) i code₁ values₁
-        → (code₁ ≡ 0) × (values₁ ≡ r .place ∷ (r .place + length (r .name)) ∷ countWord (r .count) ∷ r .subtrees ∷ parentWord (r .parent) ∷ 1 ∷ 0 ∷ 0 ∷ []) × Stands s (r .place) (r .place + length (r .name)) (r .name)
+        → (code₁ ≡ 0) × (values₁ ≡ r .place ∷ (r .place + length (r .name)) ∷ countWord (r .count) ∷ r .subtrees ∷ parentWord (r .parent) ∷ 1 ∷ 0 ∷ 0 ∷ [])
+        × Stands s (r .place) (r .place + length (r .name)) (r .name)
     node-tells-the-row {i} {r = r} q c =
-        let x = rows-shown s (nodesTold values ns′) t (tables-show call slices returned m means .tree t has) i r q in
-        let y = row-spelled means has i r q in
-        let (a, b) = node-told (there q) x y (node-tells c) in
-        (a, b, name-stands (there q) x y)
+        let (h, x, y) = row-told call slices returned m means t has i r q in
+        let (a, b) = node-told h x y (node-tells c) in
+        (a, b, name-stands h x y)
 
     -- `sparrowpivot_node_id` tells its id, zeros where it is invalid
     pub node-id-tells-the-row : {i : ℕ} {out′ : List ℕ} {r : Row} → RowIs (rows t) i r → NodeIdCall (nodesTold values ns′) i out′ → out′ ≡ idTold (r .count) (r .id)
-    node-id-tells-the-row {i} {r = r} q c =
-        node-id-tells c ∙ node-id-told (there q) (rows-shown s (nodesTold values ns′) t (tables-show call slices returned m means .tree t has) i r q) (row-spelled means has i r q)
+    node-id-tells-the-row {i} {r = r} q c = let (h, x, y) = row-told call slices returned m means t has i r q in node-id-tells c ∙ node-id-told h x y
 
-  -- and behind the last node, and where the meaning has no tree, there is no node: all eight values are 0
-  pub no-node-behind-the-tree : {i code₁ : ℕ} {values₁ : List ℕ} → nodesOf (m .tree) ≤ i → NodeCall (nodesTold values ns′) i code₁ values₁ → (code₁ ≡ 0) × (values₁ ≡ 0 ∷ 0 ∷ 0 ∷ 0 ∷ 0 ∷ 0 ∷ 0 ∷ 0 ∷ [])
+  -- and behind the last node, and where the meaning has no tree, there is no node: all is 0
+  pub no-node-behind-the-tree : {i code₁ : ℕ} {values₁ : List ℕ} → nodesOf (m .tree) ≤ i → NodeCall (nodesTold values ns′) i code₁ values₁ → (code₁ ≡ 0) × (values₁ ≡ replicate 8 0)
   no-node-behind-the-tree {i} h c = no-node-told (nodesTold values ns′) i (omega (arith, nodes-are call slices returned m means)) (node-tells c)
 
   -- ---- 5. ORDER AND LOOKUP, over these records
@@ -200,10 +208,12 @@ module _ {s rs ps ns values rs′ ps′ ns′ : List ℕ} {code : ℕ} (call : R
   check-order-returns-0-or-13 c = searching.order-0-or-13 c (m .entries) (tables-show call slices returned m means .entries) (records-are call slices returned m means)
 
   -- `sparrowpivot_lookup` returns 11 exactly if a stage above 3 is looked for
-  pub lookup-returns-11-exactly : {key : List ℕ} {stage code₁ : ℕ} {values₁ : List ℕ} → LookupCall (recordsTold values rs′) ps′ key stage code₁ values₁ → (code₁ ≡ no-stage) ↔ (highestStage < stage)
+  pub lookup-returns-11-exactly : {key : List ℕ} {stage code₁ : ℕ} {values₁ : List ℕ} → LookupCall (recordsTold values rs′) ps′ key stage code₁ values₁
+      → (code₁ ≡ no-stage) ↔ (highestStage < stage)
   lookup-returns-11-exactly c = searching.lookup-11-exactly c
 
-  module _ (order : InOrder (m .entries)) {key : List ℕ} {stage code₁ : ℕ} {values₁ : List ℕ} (c : LookupCall (recordsTold values rs′) ps′ key stage code₁ values₁) (small : stage ≤ highestStage) where
+  module _ (order : InOrder (m .entries)) {key : List ℕ} {stage code₁ : ℕ} {values₁ : List ℕ}
+      (c : LookupCall (recordsTold values rs′) ps′ key stage code₁ values₁) (small : stage ≤ highestStage) where
     -- if the entries are in order, at stages 0 to 3 it returns 0
     pub lookup-returns-0 : code₁ ≡ 0
     lookup-returns-0 = searching.lookup-0 c (m .entries) (tables-show call slices returned m means .entries) (records-are call slices returned m means) order small
@@ -225,7 +235,8 @@ module _ {rs ps ns nm out values out′ : List ℕ} {options code : ℕ} (wrote 
   -- it returns 0, with the version that was told, as many records as the table has that are not marked REMOVE, and a tree of as many nodes as the node table has exactly if one was given and
   -- asked for; of the paths is asked only that one whose length cannot be stated holds no NUL
   pub written-reads-back : PathsEnd rs ps
-      → (code₁ ≡ 0) × (value values₁ 0 ≡ value values 0) × (value values₁ 3 ≡ length (keptOf rs)) × (value values₁ 2 ≡ bit (treeAsked options)) × (value values₁ 5 ≡ pick (treeAsked options) (nodesIn ns) 0)
+      → (code₁ ≡ 0) × (value values₁ 0 ≡ value values 0) × (value values₁ 3 ≡ length (keptOf rs)) × (value values₁ 2 ≡ bit (treeAsked options))
+      × (value values₁ 5 ≡ pick (treeAsked options) (nodesIn ns) 0)
   unfolding writesTree
   written-reads-back ends =
       let (zero, told) = read-back-told wrote returned few ends records paths nodes slices roomy call in
@@ -233,44 +244,20 @@ module _ {rs ps ns nm out values out′ : List ℕ} {options code : ℕ} (wrote 
 
   -- and of a table that loses nothing by being written (`WritableTable`), what is told of record j that was read is what is told of the j-th record that was written
   module _ (fit : WritableTable rs ps) (i j : ℕ) (kept : getElem? (keptOf rs) j ≡ some i) where
-    zero-returned : code₁ ≡ 0
-    zero-returned = read-back-told wrote returned few (writable-ends rs ps fit) records paths nodes slices roomy call .0
-
-    means : File idSize (take (value values 1) out′) (indexOf rs ps ns nm (optionsFrom options))
-    means = written-means wrote returned (writable-ends rs ps fit)
-
-    entry : EntryIs (indexOf rs ps ns nm (optionsFrom options) .entries) j (meaningOf idSize rs ps i)
-    entry = at-map (meaningOf idSize rs ps) (keptOf rs) j i kept
-
     -- mode, stage and size; the flags that are kept; and the same path, which lies in both path stores
     pub record-reads-back : {code₂ code₃ : ℕ} {values₂ values₃ : List ℕ} → RecordCall rs ps i code₂ values₂ → RecordCall (recordsTold values₁ rs′) ps′ j code₃ values₃
         → (start end : ℕ) × (path : List ℕ) × (values₃ ≡ value values₂ 0 ∷ keepFlags (value values₂ 1) ∷ value values₂ 2 ∷ start ∷ end ∷ 1 ∷ 1 ∷ value values₂ 7 ∷ [])
         × Stands ps (value values₂ 3) (value values₂ 4) path × Stands ps′ start end path
-    unfolding statOf
-    record-reads-back b c =
-        let (start, end, z, v, p) = record-tells-the-entry call slices zero-returned (indexOf rs ps ns nm (optionsFrom options)) means entry c in
-        let w = ap (λ (t : Told). t .values) (record-tells b) in
-        let f = written-flags wrote returned few (writable-ends rs ps fit) records paths nodes slices roomy fit j i kept in
-        let m = written-mode wrote returned few (writable-ends rs ps fit) records paths nodes slices roomy fit j i kept in
-        let g : stageRaw (keepFlags (flagsAt rs i)) ≡ stageAt rs i = omega arith in (
-          start,
-          end,
-          pathAt rs ps i,
-          v ∙ (λ k. m k ∷ f k ∷ (ap stageRaw f ∙ g) k ∷ start ∷ end ∷ 1 ∷ 1 ∷ statAt rs i .size ∷ [])
-              ∙ sym (ap (λ (l : List ℕ). value l 0 ∷ keepFlags (value l 1) ∷ value l 2 ∷ start ∷ end ∷ 1 ∷ 1 ∷ value l 7 ∷ []) w),
-          subst (λ (l : List ℕ). Stands ps (value l 3) (value l 4) (pathAt rs ps i)) (sym w) (written-path wrote returned j i kept),
-          p,
-        )
+    record-reads-back b c = record-back wrote returned few (writable-ends rs ps fit) records paths nodes slices roomy fit i j kept call b c
 
     -- the eight other numbers
-    pub record-stat-reads-back : {code₂ code₃ : ℕ} {values₂ values₃ : List ℕ} → RecordStatCall rs i code₂ values₂ → RecordStatCall (recordsTold values₁ rs′) j code₃ values₃ → values₃ ≡ values₂
-    unfolding statOf
-    record-stat-reads-back b c =
-        record-stat-tells-the-entry call slices zero-returned (indexOf rs ps ns nm (optionsFrom options)) means entry c .1 ∙ sym (ap (λ (t : Told). t .values) (record-stat-tells b))
+    pub record-stat-reads-back : {code₂ code₃ : ℕ} {values₂ values₃ : List ℕ} → RecordStatCall rs i code₂ values₂ → RecordStatCall (recordsTold values₁ rs′) j code₃ values₃
+        → values₃ ≡ values₂
+    record-stat-reads-back b c = stat-back wrote returned few (writable-ends rs ps fit) records paths nodes slices roomy fit i j kept call b c
 
     -- and the id
     pub record-id-reads-back : {out₂ out₃ : List ℕ} → RecordIdCall rs i out₂ → RecordIdCall (recordsTold values₁ rs′) j out₃ → out₃ ≡ out₂
-    record-id-reads-back b c = record-id-tells-the-entry call slices zero-returned (indexOf rs ps ns nm (optionsFrom options)) means entry c ∙ sym (record-id-tells b)
+    record-id-reads-back b c = id-back wrote returned few (writable-ends rs ps fit) records paths nodes slices roomy fit i j kept call b c
 
 -- with none marked REMOVE every record is written, record i as the i-th
 pub unmarked-are-all-written : (rs : List ℕ) → NoneRemoved rs → (length (keptOf rs) ≡ recordsIn rs) × ((i : ℕ) → i < recordsIn rs → getElem? (keptOf rs) i ≡ some i)

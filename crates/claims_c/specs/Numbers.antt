@@ -10,7 +10,7 @@ use lib.Dec.{eqb, lit≤}
 use Rattle.laws.specs.Pick.{pick}
 use Rattle.refusal.specs.Refusal.{short-file, no-signature, other-version, bad-trailer, not-spelled, no-entry-room, not-filled, mandatory, too-deep, no-node-room}
 use Rattle.format.specs.Format.{depthLimit, idSize}
-use Rattle.file.specs.Answer.{numberOf}
+use Rattle.file.specs.Answer.{numberOf, carriedOf}
 use Rattle.file.specs.Read.{Outcome, outcome, readFile}
 use Rattle.file.specs.declared.Answer.{Answer}
 use Rattle.file.specs.declared.Answer.the-variants as answer
@@ -128,7 +128,7 @@ module _ {s rs ps ns values rs′ ps′ ns′ : List ℕ} {code : ℕ} (call : R
   )
 
 -- a refusal tells one value, and seven zeros
-one-value : (a : Answer) → (numberOf a ≡ 0 → ⊥) → readValues a ≡ one (value (readValues a) 0)
+one-value : (a : Answer) → (numberOf a ≡ 0 → ⊥) → readValues a ≡ one (carriedOf a)
 one-value (answer.Read version sparse tree records paths nodes) h = absurd (h refl)
 one-value answer.ShortFile h = refl
 one-value answer.NoSignature h = refl
@@ -141,6 +141,30 @@ one-value (answer.Mandatory signature) h = refl
 one-value answer.TooDeep h = refl
 one-value answer.NoNodeRoom h = refl
 
-pub one-value-told : {s rs ps ns values rs′ ps′ ns′ : List ℕ} {code : ℕ} → ReadCall s rs ps ns code values rs′ ps′ ns′ → (code ≡ 0 → ⊥) → values ≡ one (value values 0)
-one-value-told {s} {rs} {ps} {ns} call h =
-    values-told call ∙ one-value (reading s rs ps ns .answer) (λ e. h (number-told call ∙ e)) ∙ ap (λ (l : List ℕ). one (value l 0)) (sym (values-told call))
+-- and that is 0 but where one is carried
+nothing-carried : (a : Answer) → (numberOf a ≡ other-version → ⊥) → (numberOf a ≡ not-spelled → ⊥) → (numberOf a ≡ no-entry-room → ⊥) → (numberOf a ≡ not-filled → ⊥) → (numberOf a ≡ mandatory → ⊥)
+    → carriedOf a ≡ 0
+nothing-carried (answer.Read version sparse tree records paths nodes) c₃ c₅ c₆ c₇ c₈ = refl
+nothing-carried answer.ShortFile c₃ c₅ c₆ c₇ c₈ = refl
+nothing-carried answer.NoSignature c₃ c₅ c₆ c₇ c₈ = refl
+nothing-carried (answer.OtherVersion version) c₃ c₅ c₆ c₇ c₈ = absurd (c₃ refl)
+nothing-carried answer.BadTrailer c₃ c₅ c₆ c₇ c₈ = refl
+nothing-carried (answer.NotSpelled k) c₃ c₅ c₆ c₇ c₈ = absurd (c₅ refl)
+nothing-carried (answer.NoEntryRoom k) c₃ c₅ c₆ c₇ c₈ = absurd (c₆ refl)
+nothing-carried (answer.NotFilled place) c₃ c₅ c₆ c₇ c₈ = absurd (c₇ refl)
+nothing-carried (answer.Mandatory signature) c₃ c₅ c₆ c₇ c₈ = absurd (c₈ refl)
+nothing-carried answer.TooDeep c₃ c₅ c₆ c₇ c₈ = refl
+nothing-carried answer.NoNodeRoom c₃ c₅ c₆ c₇ c₈ = refl
+
+module _ {s rs ps ns values rs′ ps′ ns′ : List ℕ} {code : ℕ} (call : ReadCall s rs ps ns code values rs′ ps′ ns′) (some : code ≡ 0 → ⊥) where
+  carried-told : values ≡ one (carriedOf (reading s rs ps ns .answer))
+  carried-told = values-told call ∙ one-value (reading s rs ps ns .answer) (λ e. some (number-told call ∙ e))
+
+  pub one-value-told : values ≡ one (value values 0)
+  one-value-told = carried-told ∙ ap (λ (l : List ℕ). one (value l 0)) (sym carried-told)
+
+  pub nothing-told : (code ≡ other-version → ⊥) → (code ≡ not-spelled → ⊥) → (code ≡ no-entry-room → ⊥) → (code ≡ not-filled → ⊥) → (code ≡ mandatory → ⊥) → value values 0 ≡ 0
+  nothing-told c₃ c₅ c₆ c₇ c₈ =
+      let e = number-told call in
+      ap (λ (l : List ℕ). value l 0) carried-told
+      ∙ nothing-carried (reading s rs ps ns .answer) (λ q. c₃ (e ∙ q)) (λ q. c₅ (e ∙ q)) (λ q. c₆ (e ∙ q)) (λ q. c₇ (e ∙ q)) (λ q. c₈ (e ∙ q))

@@ -12,8 +12,9 @@ use Rattle.laws.specs.Pick.{pick}
 use Rattle.laws.specs.Tests.{lt-or-ge}
 use Rattle.format.specs.Format.{depthLimit, idSize}
 use Rattle.sha1.specs.Sha1.{sha1}
-use Rattle.entry.specs.Flags.{keepFlags}
-use Rattle.entry.specs.Record.{recordsIn, modeAt, flagsAt, startAt, endAt, liesInside, pathAt}
+use Rattle.entry.specs.Flags.{stageRaw, keepFlags}
+use Rattle.entry.specs.Record.{recordsIn, modeAt, flagsAt, stageAt, startAt, endAt, liesInside, pathAt}
+use Rattle.entry.specs.Stat.{statAt}
 use Rattle.entry.specs.Laws.{path-is}
 use Rattle.node.specs.Store.{nodesIn}
 use Rattle.access.specs.Sorted.{yes-lies}
@@ -29,16 +30,18 @@ use Rattle.write.specs.Entries.{isGone, First, found, nowhere, faultOf, beforeA
 use Rattle.write.specs.File.{Outcome, outcome, numberOf, writesTree, writeAll}
 use Rattle.claims.specs.Premises.{Slices}
 use Rattle.claims_entries.specs.Rendering.{pathsBytes}
-use Rattle.claims_write.specs.Meaning.{writtenFlags, meaningOf, keptOf, meaningsOf, PathsEnd, WritableTable}
+use Rattle.claims_entries.specs.Fields.{Shows}
+use Rattle.claims_write.specs.Meaning.{statOf, writtenFlags, meaningOf, keptOf, meaningsOf, PathsEnd, WritableTable}
 use Rattle.claims_write.specs.Spelled.{indexOf, fileIn, done-says, contract-spelled}
-use Rattle.claims_write.specs.Kept.{kept-is}
+use Rattle.claims_write.specs.Kept.{at-map, kept-is}
 use Rattle.claims_write.specs.Claims.{Roomy, reads-back, shows-written, written-reads-back}
 use Rattle.sparrowpivot.specs.Told.{Told, bit}
 use Rattle.sparrowpivot.specs.Reading.{readValues}
 use Rattle.sparrowpivot.specs.Writing.{optionsFrom, writeValues}
-use Rattle.claims_settled.specs.Exports.{ReadCall, WriteCall, write-tells}
-use Rattle.claims_c.specs.Terms.{value, Stands}
+use Rattle.claims_settled.specs.Exports.{ReadCall, WriteCall, write-tells, RecordCall, record-tells, RecordStatCall, record-stat-tells, RecordIdCall, record-id-tells}
+use Rattle.claims_c.specs.Terms.{value, recordsTold, Stands}
 use Rattle.claims_c.specs.Numbers.{number-told, values-told}
+use Rattle.claims_c.specs.Tables.{path-stands, record-told, stat-told, tables-show}
 
 -- 0 is Done
 done-is : (a : Answer) → numberOf a ≡ 0 → a ≡ answer.Done (value (writeValues a) 0) (value (writeValues a) 1)
@@ -90,12 +93,12 @@ module _ {rs ps ns nm out values out′ : List ℕ} {options code : ℕ} (wrote 
   same-file = ap (λ (l : List ℕ). take (value values 1) l) output
 
   -- the file that was written means the table
-  pub written-means : PathsEnd rs ps → File idSize (take (value values 1) out′) (indexOf rs ps ns nm asked)
+  written-means : PathsEnd rs ps → File idSize (take (value values 1) out′) (indexOf rs ps ns nm asked)
   written-means ends =
       contract-spelled rs ps ns nm asked out out′ (value values 0) (value values 1) (λ k. outcome (sym done k) (sym output k)) ends
 
   -- each record that was written has its path in the store
-  pub written-path : (j i : ℕ) → getElem? (keptOf rs) j ≡ some i → Stands ps (startAt rs i) (endAt rs i) (pathAt rs ps i)
+  written-path : (j i : ℕ) → getElem? (keptOf rs) j ≡ some i → Stands ps (startAt rs i) (endAt rs i) (pathAt rs ps i)
   written-path j i e =
       let d = done-says rs ps ns nm asked out (value values 0) (value values 1) done in
       let k = kept-is rs (recordsIn rs) 0 j i e in
@@ -124,12 +127,47 @@ module _ {rs ps ns nm out values out′ : List ℕ} {options code : ℕ} (wrote 
     read-back-told call = (number-told call ∙ ap numberRead written-read, values-told call ∙ ap readValues written-read)
 
     -- what a record that loses nothing means
-    pub written-mode : WritableTable rs ps → (j i : ℕ) → getElem? (keptOf rs) j ≡ some i → meaningOf idSize rs ps i .stat .mode ≡ modeAt rs i
+    written-mode : WritableTable rs ps → (j i : ℕ) → getElem? (keptOf rs) j ≡ some i → meaningOf idSize rs ps i .stat .mode ≡ modeAt rs i
     written-mode fit j i e =
         sym (shows-written rs ps ns nm asked out (value values 0) (value values 1) done few ends records′ paths′ nodes′ slices-w roomy j i e .mode)
         ∙ written-reads-back rs ps ns nm asked out (value values 0) (value values 1) done few ends records′ paths′ nodes′ slices-w roomy fit j i e .mode
 
-    pub written-flags : WritableTable rs ps → (j i : ℕ) → getElem? (keptOf rs) j ≡ some i → writtenFlags (flagsAt rs i) ≡ keepFlags (flagsAt rs i)
+    written-flags : WritableTable rs ps → (j i : ℕ) → getElem? (keptOf rs) j ≡ some i → writtenFlags (flagsAt rs i) ≡ keepFlags (flagsAt rs i)
     written-flags fit j i e =
         sym (shows-written rs ps ns nm asked out (value values 0) (value values 1) done few ends records′ paths′ nodes′ slices-w roomy j i e .flags)
         ∙ written-reads-back rs ps ns nm asked out (value values 0) (value values 1) done few ends records′ paths′ nodes′ slices-w roomy fit j i e .flags
+
+    -- ---- calls of the record functions, over the table that was written and over the one that was read
+    module _ (fit : WritableTable rs ps) (i j : ℕ) (kept : getElem? (keptOf rs) j ≡ some i) {values₁ rs′ ps′ ns′ : List ℕ} {code₁ : ℕ}
+        (call : ReadCall (take (value values 1) out′) records′ paths′ nodes′ code₁ values₁ rs′ ps′ ns′) where
+      entry-shown : Shows idSize (recordsTold values₁ rs′) ps′ j (meaningOf idSize rs ps i)
+      entry-shown =
+          tables-show call slices (read-back-told call .0) (indexOf rs ps ns nm asked) (written-means ends) .entries j (meaningOf idSize rs ps i) (at-map (meaningOf idSize rs ps) (keptOf rs) j i kept)
+
+      pub record-back : {code₂ code₃ : ℕ} {values₂ values₃ : List ℕ} → RecordCall rs ps i code₂ values₂ → RecordCall (recordsTold values₁ rs′) ps′ j code₃ values₃
+          → (start end : ℕ) × (path : List ℕ) × (values₃ ≡ value values₂ 0 ∷ keepFlags (value values₂ 1) ∷ value values₂ 2 ∷ start ∷ end ∷ 1 ∷ 1 ∷ value values₂ 7 ∷ [])
+          × Stands ps (value values₂ 3) (value values₂ 4) path × Stands ps′ start end path
+      unfolding statOf
+      record-back b c =
+          let x = entry-shown in
+          let start : ℕ = x .start in
+          let end : ℕ = x .start + length (pathAt rs ps i) in
+          let w = ap (λ (t : Told). t .values) (record-tells b) in
+          let f = written-flags fit j i kept in
+          let m = written-mode fit j i kept in
+          let g : stageRaw (keepFlags (flagsAt rs i)) ≡ stageAt rs i = omega arith in (
+            start,
+            end,
+            pathAt rs ps i,
+            record-told x (record-tells c) .1 ∙ (λ k. m k ∷ f k ∷ (ap stageRaw f ∙ g) k ∷ start ∷ end ∷ 1 ∷ 1 ∷ statAt rs i .size ∷ [])
+                ∙ sym (ap (λ (l : List ℕ). value l 0 ∷ keepFlags (value l 1) ∷ value l 2 ∷ start ∷ end ∷ 1 ∷ 1 ∷ value l 7 ∷ []) w),
+            subst (λ (l : List ℕ). Stands ps (value l 3) (value l 4) (pathAt rs ps i)) (sym w) (written-path j i kept),
+            path-stands x,
+          )
+
+      pub stat-back : {code₂ code₃ : ℕ} {values₂ values₃ : List ℕ} → RecordStatCall rs i code₂ values₂ → RecordStatCall (recordsTold values₁ rs′) j code₃ values₃ → values₃ ≡ values₂
+      unfolding statOf
+      stat-back b c = stat-told entry-shown (record-stat-tells c) .1 ∙ sym (ap (λ (t : Told). t .values) (record-stat-tells b))
+
+      pub id-back : {out₂ out₃ : List ℕ} → RecordIdCall rs i out₂ → RecordIdCall (recordsTold values₁ rs′) j out₃ → out₃ ≡ out₂
+      id-back b c = record-id-tells c ∙ entry-shown .id ∙ sym (record-id-tells b)

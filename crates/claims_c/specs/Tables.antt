@@ -2,27 +2,23 @@
 -- one meaning. Assumes that the file is bytes and that no slice has 2^64 bytes or more, the premise `Slices`.
 use Prim.Native.Nat.{ℕ, _+_, _-_, _*_, _≤_, _<_}
 use mathlib.Core.Path.{_≡_, refl, sym, ap, _∙_, subst}
-use mathlib.Core.Bool.{Bool, true, false}
 use mathlib.Core.List.{List, [], _∷_}
-use mathlib.Core.Logic.{⊎-elim}
+use mathlib.Core.Option.{none, some}
 use native.Mathlib.Omega.{arith}
-use lib.Dec.{ltb, lit≤}
-use lib.ListN.{length, take, replicate, length-take, length-append}
-use lib.Seq.{length-take-le}
+use lib.ListN.{length, take, replicate, length-take}
 use borrow.Author.Tests.{lt-ltb, le-ltb}
-use Rattle.laws.specs.Tests.{lt-or-ge}
 use Rattle.format.specs.Format.{idSize}
 use Rattle.entry.specs.Layout.{recordSize}
-use Rattle.entry.specs.Record.{recordsIn, fieldAt, flagsAt, startAt, endAt, liesInside, idAt}
+use Rattle.entry.specs.Record.{recordsIn, fieldAt, idAt}
 use Rattle.entry.specs.Laws.{field-out, id-out, inside-none, path-is}
 use Rattle.node.specs.Store.{nodeSize, nodesIn}
 use Rattle.access.specs.Sorted.{yes-lies}
-use Rattle.file.specs.Read.{Outcome, outcome}
-use Rattle.file.specs.declared.Answer.the-variants as answer
+use Rattle.file.specs.Read.{Outcome}
 use Rattle.grammar.specs.Entry.{Meaning}
+use Rattle.grammar.specs.Tree.{Tree}
 use Rattle.grammar.specs.File.{Index, File}
 use Rattle.claims_entries.specs.Rendering.{pathsBytes}
-use Rattle.claims_entries.specs.Fields.{Shows, meaning-at}
+use Rattle.claims_entries.specs.Fields.{Shows}
 use Rattle.claims.specs.Premises.{Slices}
 use Rattle.claims.specs.Claims.{hasTree, nodesOf, accepted-is-the-one-meaning}
 use Rattle.claims.specs.Shown.{ShowsIndex, shown-by-the-first, accepted-is-shown}
@@ -30,8 +26,9 @@ use Rattle.sparrowpivot.specs.Told.{Told, told, bit}
 use Rattle.sparrowpivot.specs.Reading.{readValues}
 use Rattle.sparrowpivot.specs.Tables.{tellRecord, tellStat}
 use Rattle.claims_settled.specs.Exports.{ReadCall}
-use Rattle.claims_c.specs.Terms.{value, recordsTold, nodesTold, Stands, stageOf}
+use Rattle.claims_c.specs.Terms.{value, recordsTold, nodesTold, Stands, stageOf, Row, rows, RowIs}
 use Rattle.claims_c.specs.Numbers.{values-told, left, zero-is-read}
+use Rattle.claims_c.specs.Rows.{row-within, rows-many, rows-shown, ShowsRow, SpelledRow, row-spelled}
 
 -- ---- one record
 
@@ -72,6 +69,16 @@ module _ (rs : List ℕ) (i : ℕ) (none-there : recordsIn rs ≤ i) where
         ∙ (rw (zero-field 4 24, zero-field 4 72, zero-field 8 76, zero-field 8 84, ← (inside-none rs ps i none-there), le-ltb i (recordsIn rs) none-there, zero-field 4 36)),
   )
 
+  pub no-stat-told : {code : ℕ} {values : List ℕ} → told code values [] ≡ tellStat rs i → (code ≡ 0) × (values ≡ replicate 8 0)
+  no-stat-told t = (
+    ap (λ (t : Told). t .code) t,
+    ap (λ (t : Told). t .values) t
+        ∙ (rw (zero-field 4 0, zero-field 4 4, zero-field 4 8, zero-field 4 12, zero-field 4 16, zero-field 4 20, zero-field 4 28, zero-field 4 32)),
+  )
+
+  pub no-id-told : idAt idSize rs i ≡ replicate idSize 0
+  no-id-told = sym (id-out idSize rs i none-there)
+
 -- ---- what a call left where it returned 0
 
 module _ {s rs ps ns values rs′ ps′ ns′ : List ℕ} {code : ℕ} (call : ReadCall s rs ps ns code values rs′ ps′ ns′) (slices : Slices s ps ns) (returned : code ≡ 0) (m : Index) (means : File idSize s m) where
@@ -103,3 +110,15 @@ module _ {s rs ps ns values rs′ ps′ ns′ : List ℕ} {code : ℕ} (call : R
   nodes-are =
       let n : value values 5 ≡ nodesOf (m .tree) = ap (λ (l : List ℕ). value l 5) meaning-told in
       omega (arith, length-take (value values 5 * nodeSize) ns′, tables-show .nodes)
+
+  -- node i of the tree is there, shows its row, and that is a row of a spelled tree
+  pub row-told : (t : Tree) → m .tree ≡ some t → (i : ℕ) (r : Row) → RowIs (rows t) i r
+      → (i < nodesIn (nodesTold values ns′)) × ShowsRow s (nodesTold values ns′) i r × SpelledRow (length s) r
+  row-told t has i r q = (
+    omega (arith, row-within (rows t) i r q, rows-many t none 0, ap nodesOf has, nodes-are),
+    rows-shown s (nodesTold values ns′) t (tables-show .tree t has) i r q,
+    row-spelled means has i r q,
+  )
+
+  pub rows-told : (t : Tree) → m .tree ≡ some t → length (rows t) ≡ value values 5
+  rows-told t has = rows-many t none 0 ∙ sym (ap nodesOf has) ∙ sym (ap (λ (l : List ℕ). value l 5) meaning-told)
