@@ -21,7 +21,7 @@ use Rattle.access.specs.Finds.{Has}
 use Rattle.access.specs.Steps.{lookupSteps}
 use Rattle.access.specs.declared.Found.{Found}
 use Rattle.access.specs.declared.Found.the-variants.{At, Absent}
-use Rattle.grammar.specs.File.{Index, File, versionOf, countOf, space}
+use Rattle.grammar.specs.File.{Index, File, versionOf, countOf, space, GoodHeader}
 use Rattle.file.specs.Read as reading
 use Rattle.file.specs.declared.Answer.the-variants.{Read, NotSpelled}
 use Rattle.write.specs.File as writing
@@ -30,8 +30,8 @@ use Rattle.write.specs.declared.Answer.the-variants.{Done}
 use Rattle.claims_entries.specs.Rendering.{pathsBytes}
 use Rattle.claims_entries.specs.Said.{filled, StopsAt, RoomFor}
 use Rattle.claims_tree.specs.Rendering.{treeBytes}
-use Rattle.claims.specs.Premises.{Slices}
-use Rattle.claims.specs.Said.{Opened, holding}
+use Rattle.claims.specs.Premises.{Slices, GoodTrailer}
+use Rattle.claims.specs.Said.{holding, SaysFile}
 use Rattle.claims.specs.Claims.{TreeFits, Renders, IsRead}
 use Rattle.claims_write.specs.Meaning.{keptOf, meaningsOf, WritableTable, SameEntry}
 use Rattle.claims_write.specs.Spelled.{indexOf}
@@ -61,10 +61,10 @@ pub record Digester : Type 1 where
 
 -- ---- DEMAND 3
 
--- a file with a good header and trailer, and room for the entries before the first not spelled
+-- a file with a good trailer, and room for the entries before the first not spelled
 pub record Readable (s rs ps ns : List ℕ) : Type 0 where
   pub slices : Slices s ps ns
-  pub opened : Opened s
+  pub trailer : GoodTrailer s
   pub room : RoomFor idSize (versionOf s) (space idSize s) (countOf s) rs ps
 
 pub record Demand3 (read : Reader) : Type 0 where
@@ -74,10 +74,16 @@ pub record Demand3 (read : Reader) : Type 0 where
   pub one-meaning : (s : List ℕ) (m o : Index) → File idSize s m → File idSize s o → m ≡ o
   -- answer and all three stores are exactly the rendering of that meaning
   pub stores-are-the-meaning : (s rs ps ns : List ℕ) → Readable s rs ps ns → TreeFits s ns → (m : Index) → File idSize s m → Renders s rs ps ns m (read s rs ps ns)
-  -- refusal 5 names k exactly when the first k entries can be spelled and the next, within the count, cannot
-  pub refusal-5-exactly : (s rs ps ns : List ℕ) → Readable s rs ps ns → (k : ℕ) → (read s rs ps ns .answer ≡ NotSpelled k) ↔ StopsAt idSize (versionOf s) (space idSize s) (countOf s) k
+  -- with a good header, refusal 5 names k exactly when the first k entries can be spelled and the next, within the count, cannot
+  pub refusal-5-exactly : (s rs ps ns : List ℕ) → Readable s rs ps ns → GoodHeader idSize s → (k : ℕ) → (read s rs ps ns .answer ≡ NotSpelled k) ↔ StopsAt idSize (versionOf s) (space idSize s) (countOf s) k
   -- and then the stores hold the entries before it, and nothing else is touched
-  pub refusal-5-stores : (s rs ps ns : List ℕ) → Readable s rs ps ns → (k : ℕ) (x : StopsAt idSize (versionOf s) (space idSize s) (countOf s) k) → read s rs ps ns ≡ holding s rs ps ns (x .1 .0) (NotSpelled k)
+  pub refusal-5-stores : (s rs ps ns : List ℕ) → Readable s rs ps ns → GoodHeader idSize s → (k : ℕ) (x : StopsAt idSize (versionOf s) (space idSize s) (countOf s) k)
+      → read s rs ps ns ≡ holding s rs ps ns (x .1 .0) (NotSpelled k)
+
+-- ---- THE WHOLE TABLE: of any file and stores, good or not, what the reader answers and leaves is what one rule of `SaysFile` says
+
+abbrev pub AnswersByTheTable : Reader → Type 0
+AnswersByTheTable read = (s rs ps ns : List ℕ) → Slices s ps ns → SaysFile s rs ps ns (read s rs ps ns)
 
 -- ---- DEMAND 2: read-back
 

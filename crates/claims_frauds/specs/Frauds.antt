@@ -8,7 +8,10 @@ use native.Mathlib.Omega.{arith}
 use lib.Dec.{lit≤, lit<}
 use lib.ListN.{length, take, drop, replicate, length-append, take-append-drop}
 use lib.Seq.{take-take}
+use Rattle.laws.specs.Pick.{pick}
 use Rattle.laws.specs.Tests.{lt-or-ge}
+use Rattle.slices.specs.Bytes.{sameBytes}
+use Rattle.slices.specs.Laws.{same-equal}
 use Rattle.sha1.specs.Pieces as pieces
 use Rattle.sha1.specs.declared.Digest.{Digest}
 use Rattle.access.specs.Lookup.{lookupAt}
@@ -56,6 +59,24 @@ reports-none-fails read none demand =
 
 pub always-empty-fails : ¬ Demand3 (λ s rs ps ns. reading.outcome (Read 2 false false 0 0 0) rs ps ns)
 always-empty-fails = reports-none-fails (λ s rs ps ns. reading.outcome (Read 2 false false 0 0 0) rs ps ns) (λ s rs ps ns version sparse tree records paths nodes e. let q : _≡_ {A = ℕ} records 0 = cc in q)
+
+-- ---- A READER THAT TAKES EVERY FILE WITHOUT "DIRC" FOR AN INDEX fails demand 3
+
+pub reads-unsigned-fails : (read : Reader) → ((s rs ps ns : List ℕ) → ¬ (take 4 s ≡ DIRC) → IsRead (read s rs ps ns .answer)) → ¬ Demand3 read
+reads-unsigned-fails read reads demand =
+    let (m, x) = demand .accepted-exactly-if-spelled witness.zeros-alone [] [] [] witness.zeros-readable witness.zeros-tree-fits .0 (reads witness.zeros-alone [] [] [] witness.zeros-unsigned) in
+    witness.zeros-not-spelled m x
+
+-- ours, but for an empty index where there is no "DIRC"
+abbrev pub lenient : Reader
+lenient s rs ps ns = pick (sameBytes (take 4 s) DIRC) (reader s rs ps ns) (reading.outcome (Read 2 false false 0 0 0) rs ps ns)
+
+pub lenient-fails : ¬ Demand3 lenient
+lenient-fails = reads-unsigned-fails lenient (λ s rs ps ns other. by s rs ps ns (sameBytes (take 4 s) DIRC) (λ e. other (same-equal (take 4 s) DIRC e)))
+  where
+    by : (s rs ps ns : List ℕ) (t : Bool) → (t ≡ true → ⊥) → IsRead (pick t (reader s rs ps ns) (reading.outcome (Read 2 false false 0 0 0) rs ps ns) .answer)
+    by s rs ps ns true never = absurd (never refl)
+    by s rs ps ns false never = (_, _, _, _, _, _, refl)
 
 -- ---- A WRITER THAT STORES NOTHING fails demand 2: one that leaves every output as it was, and says Done for 01's marked table and an output that does not happen to begin with "DIRC"
 

@@ -13,12 +13,13 @@ use Rattle.access.specs.Steps.{found-counts-the-steps, absent-counts-the-steps}
 use Rattle.grammar.specs.Unique as grammar
 use Rattle.file.specs.Read.{readFile}
 use Rattle.write.specs.File.{writeAll}
+use Rattle.claims.specs.Reading.{answer-says}
 use Rattle.claims.specs.Claims as claims
 use Rattle.claims_write.specs.Meaning.{PathsEnd}
 use Rattle.claims_write.specs.Spelled as spelled
 use Rattle.claims_write.specs.Eoie as eoie
 use Rattle.claims_write.specs.Claims as claims_write
-use Rattle.claims_frauds.specs.Demands.{Reader, Writer, Digester, Demand3, Case, Done?, ReadsBack, Finds, Demand2, CountsTheSteps, fedAll, DigestsEachPrefix}
+use Rattle.claims_frauds.specs.Demands.{Reader, Writer, Digester, Demand3, AnswersByTheTable, Case, Done?, ReadsBack, Finds, Demand2, CountsTheSteps, fedAll, DigestsEachPrefix}
 
 -- what the contracts of `file::read`, `write::write_to`, `access::lookup` and `sha1::Digest` cite
 abbrev pub reader : Reader
@@ -35,12 +36,15 @@ digest = record { State = Digest; new = pieces.digestAfter []; feed = pieces.fed
 pub demand-3 : Demand3 reader
 demand-3 =
     record {
-      accepted-exactly-if-spelled = λ s rs ps ns x t. claims.accepted-exactly-if-spelled s rs ps ns (x .slices) (x .opened) (x .room) t;
+      accepted-exactly-if-spelled = λ s rs ps ns x t. claims.accepted-exactly-if-spelled s rs ps ns (x .slices) (x .trailer) (x .room) t;
       one-meaning = λ s m o x y. grammar.one-meaning 20 s m o x y;
-      stores-are-the-meaning = λ s rs ps ns x t m y. claims.stores-are-the-meaning s rs ps ns (x .slices) (x .opened) (x .room) t m y;
-      refusal-5-exactly = λ s rs ps ns x k. claims.refusal-5-exactly s rs ps ns (x .slices) (x .opened) (x .room) k;
-      refusal-5-stores = λ s rs ps ns x k y. claims.refusal-5-stores s rs ps ns (x .slices) (x .opened) (x .room) k y;
+      stores-are-the-meaning = λ s rs ps ns x t m y. claims.stores-are-the-meaning s rs ps ns (x .slices) (x .trailer) (x .room) t m y;
+      refusal-5-exactly = λ s rs ps ns x g k. claims.refusal-5-exactly s rs ps ns (x .slices) (record { header = g; trailer = x .trailer }) (x .room) k;
+      refusal-5-stores = λ s rs ps ns x g k y. claims.refusal-5-stores s rs ps ns (x .slices) (record { header = g; trailer = x .trailer }) (x .room) k y;
     }
+
+pub answers-by-the-table : AnswersByTheTable reader
+answers-by-the-table = answer-says
 
 -- ---- demand 2
 

@@ -1,4 +1,5 @@
--- WITNESSES against the frauds. A file with one entry that demand 3 speaks of, the grammar's own example of a path that ends at NUL; and two messages with two digests. Assumes nothing.
+-- WITNESSES against the frauds. Two files that demand 3 speaks of: one entry, the grammar's own example of a path that ends at NUL, and 32 zeros, which the grammar does not spell; and two
+-- messages with two digests. Assumes nothing.
 use Prim.Native.Nat.{ℕ, zero, suc, _<_}
 use mathlib.Core.Path.{_≡_, refl, sym, ap, _∙_, subst}
 use mathlib.Core.Bool.{true, false}
@@ -6,8 +7,8 @@ use mathlib.Core.List.{List, [], _∷_, _++_}
 use mathlib.Core.Option.{none}
 use native.Mathlib.Omega.{arith}
 use lib.Dec.{lit≤, lit<}
-use lib.ListN.{length, getD, replicate}
-use Rattle.laws.specs.Times.{readTimes, done}
+use lib.ListN.{length, getD, take, replicate, length-append}
+use Rattle.laws.specs.Times.{readTimes, done, more}
 use Rattle.wire.specs.BigEndian.{beAt, bytesOf}
 use Rattle.format.specs.Format.{idSize}
 use Rattle.sha1.specs.Sha1.{rotl, ch, parity, maj, mixOf, constOf, zerosOf, padding, initial, wordsOf, nextWord, extend, schedule, turn, rounds, added, compress, hashBlocks, digestOf, sha1}
@@ -18,6 +19,7 @@ use Rattle.grammar.specs.Entry.{Meaning, meaning, start, Entries}
 use Rattle.grammar.specs.Entry.NoNul.{empty, byte}
 use Rattle.grammar.specs.Fault.{extensions-length}
 use Rattle.grammar.specs.File.{Index, DIRC, File, space}
+use Rattle.grammar.specs.Space.{spelled-has-good-header}
 use Rattle.grammar.specs.DecideNumber.{readBytes, readBig, readUntil, decided}
 use Rattle.grammar.specs.DecideEntry.{readWords, readFields, readFlags, readToNul, readName, readEntry, readEntries, entries-reads}
 use Rattle.grammar.specs.Unique.{entries-unique}
@@ -25,8 +27,7 @@ use Rattle.grammar.specs.Examples.{path-to-nul}
 use Rattle.claims_entries.specs.Rendering.{pathsBytes}
 use Rattle.claims_entries.specs.Said.{Fits, RoomFor}
 use Rattle.claims_extension.specs.Words.{allBytes, bytes-if}
-use Rattle.claims.specs.Premises.{Slices, zeros}
-use Rattle.claims.specs.Said.{Opened}
+use Rattle.claims.specs.Premises.{Slices, GoodTrailer, zeros}
 use Rattle.claims.specs.Claims.{TreeFits}
 use Rattle.claims.specs.Example.{none-last}
 use Rattle.claims_write.specs.Meaning.{keptFrom, WritableTable}
@@ -66,8 +67,8 @@ slices : Slices one-entry paths nodes
 unfolding allBytes
 slices = record { bytes = bytes-if one-entry refl; file = lit< tt; paths = lit< tt; nodes = lit< tt }
 
-opened : Opened one-entry
-opened = record { header = record { long = lit≤ tt; signature = refl; version = record { oldest = lit≤ tt; newest = lit≤ tt } }; trailer = zeros refl }
+good-trailer : GoodTrailer one-entry
+good-trailer = zeros refl
 
 -- the entry takes the whole space
 all-spelled : Entries idSize 2 start 1 (space idSize one-entry) (the-entry ∷ [])
@@ -83,12 +84,41 @@ room (suc zero) ms rest h x =
 room (suc (suc k)) ms rest h x = absurd (omega arith)
 
 pub readable : Readable one-entry records paths nodes
-readable = record { slices = slices; opened = opened; room = room }
+readable = record { slices = slices; trailer = good-trailer; room = room }
 
 pub tree-fits : TreeFits one-entry nodes
 tree-fits place body x =
     let (e, f, g) = entries-unique idSize 2 start 1 (space idSize one-entry) (x .ms) (the-entry ∷ []) (x .c) [] (x .b, x .joins, x .entries) (space idSize one-entry, refl, all-spelled) in
     absurd (none-last (x .last) (sym (extensions-length (x .extensions)) ∙ ap length f))
+
+-- ---- 32 zeros: a good trailer, and no header
+
+abbrev pub zeros-alone : List ℕ
+zeros-alone = replicate 32 0
+
+-- a count of none asks for no store
+no-room-needed : RoomFor idSize 0 (space idSize zeros-alone) 0 [] []
+unfolding pathsBytes
+no-room-needed k ms rest h (b, i, done) = record { records = lit≤ tt; paths = lit≤ tt }
+no-room-needed k ms rest h (b, i, more x y) = absurd (omega arith)
+
+zeros-slices : Slices zeros-alone [] []
+unfolding allBytes
+zeros-slices = record { bytes = bytes-if zeros-alone refl; file = lit< tt; paths = lit< tt; nodes = lit< tt }
+
+pub zeros-readable : Readable zeros-alone [] [] []
+zeros-readable = record { slices = zeros-slices; trailer = zeros refl; room = no-room-needed }
+
+pub zeros-tree-fits : TreeFits zeros-alone []
+zeros-tree-fits place body x =
+    let empty : length (x .c) ≡ 0 = omega (arith, ap length (x .joins), length-append (x .b) (x .c)) in
+    absurd (none-last (x .last) (sym (extensions-length (x .extensions)) ∙ empty))
+
+pub zeros-unsigned : ¬ (take 4 zeros-alone ≡ DIRC)
+zeros-unsigned e = let z : _≡_ {A = ℕ} 0 1 = cc in omega arith
+
+pub zeros-not-spelled : (m : Index) → ¬ File idSize zeros-alone m
+zeros-not-spelled m x = zeros-unsigned (spelled-has-good-header x .signature)
 
 -- ---- 01's marked table loses nothing by being written, and three records and five path bytes are room enough for it
 

@@ -1,0 +1,204 @@
+-- END TO END FOR C: what a C program gets from the exported functions. A call enters by what Rattle itself reads out of the function's contract (`ReadCall` and the like, of `claims_settled`),
+-- so each sentence is about the code. A meaning is the grammar's: `File idSize s m` says that the bytes s spell the index m. `values` are the eight numbers, `value values k` is `values[k]`.
+-- Stores with a dash are as the call left them. Premises are named: `Slices` (the file is bytes, and no slice has 2^64 bytes or more) throughout; each other one stands where it is needed.
+use Prim.Native.Nat.{ℕ, _+_, _≤_, _<_}
+use mathlib.Core.Path.{_≡_, refl, sym, ap, _∙_, subst}
+use mathlib.Core.List.{List, [], _∷_}
+use mathlib.Core.Logic.{_↔_, _⊎_}
+use mathlib.Core.Option.{none, some}
+use native.Mathlib.Omega.{arith}
+use lib.ListN.{length, take}
+use Rattle.refusal.specs.Refusal.{short-file, no-signature, other-version, bad-trailer, not-spelled, no-entry-room, not-filled, mandatory, too-deep, no-node-room, no-stage, not-after}
+use Rattle.format.specs.Format.{depthLimit, idSize}
+use Rattle.node.specs.Store.{nodesIn}
+use Rattle.access.specs.Lookup.{highestStage}
+use Rattle.file.specs.Answer.{numberOf}
+use Rattle.file.specs.Read.{Outcome, outcome}
+use Rattle.file.specs.declared.Answer.{Answer}
+use Rattle.grammar.specs.Number.{bigEndian}
+use Rattle.grammar.specs.Entry.{Meaning}
+use Rattle.grammar.specs.Tree.{Tree}
+use Rattle.grammar.specs.File.{Index, DIRC, headerLength, Supported, File, versionOf, countOf, space, GoodHeader}
+use Rattle.grammar.specs.Fault.{stray, refused, Faulty}
+use Rattle.claims_entries.specs.Rendering.{pathsBytes}
+use Rattle.claims_entries.specs.Said.{StopsAt, RoomFor, LacksRoomAt}
+use Rattle.claims_tree.specs.Rendering.{countWord}
+use Rattle.claims_tree.specs.Said.{lent, GoesTooDeep, UsesUp}
+use Rattle.claims.specs.Premises.{Slices, GoodTrailer}
+use Rattle.claims.specs.Said.{Opened, SaysFile}
+use Rattle.claims.specs.Reading as reader
+use Rattle.claims.specs.Claims as claims
+use Rattle.claims.specs.Claims.{TreeFits, hasTree, nodesOf, Behind, BehindIsTREE}
+use Rattle.sparrowpivot.specs.Told.{bit}
+use Rattle.sparrowpivot.specs.Reading.{readValues}
+use Rattle.claims_settled.specs.Exports.{ReadCall, RecordCall, record-tells, RecordStatCall, record-stat-tells, RecordIdCall, record-id-tells, NodeCall, node-tells, NodeIdCall, node-id-tells, LookupCall, CheckOrderCall}
+use Rattle.claims_c.specs.Terms.{value, recordsTold, nodesTold, Stands, stageOf, EntryIs, InOrder, FirstNotAfter, EntryHas, Row, rows, RowIs, parentWord, idTold}
+use Rattle.claims_c.specs.Numbers.{reading, number-told, values-told, left, code-small, zero-is-read, read-is-zero, by-number, by-number-and-value, one-value-told}
+use Rattle.claims_c.specs.Tables.{path-stands, record-told, stat-told, no-record-told, meaning-told, tables-show, records-are, nodes-are}
+use Rattle.claims_c.specs.Rows.{row-within, rows-many, rows-shown, row-spelled, name-stands, node-told, node-id-told, no-node-told}
+use Rattle.claims_c.specs.Searching as searching
+
+-- ---- 1. WHAT `sparrowpivot_read` RETURNS, AND WHEN
+
+module _ {s rs ps ns values rs′ ps′ ns′ : List ℕ} {code : ℕ} (call : ReadCall s rs ps ns code values rs′ ps′ ns′) (slices : Slices s ps ns) where
+  -- given a good trailer, room for the entries and a tree that fits, 0 exactly if the grammar spells the file
+  pub read-returns-0-exactly-if-spelled : GoodTrailer s → RoomFor idSize (versionOf s) (space idSize s) (countOf s) rs ps → TreeFits s ns → (code ≡ 0) ↔ ((m : Index) × File idSize s m)
+  read-returns-0-exactly-if-spelled good room fits =
+      let both = claims.accepted-exactly-if-spelled s rs ps ns slices good room fits in
+      ((λ e. both .0 (zero-is-read call e)), (λ x. read-is-zero call (both .1 x)))
+
+  -- given a good header, a good trailer and room, 5 with k exactly when the first k entries can be spelled and the next, still within the header's count, cannot
+  pub read-returns-5-exactly : GoodHeader idSize s → GoodTrailer s → RoomFor idSize (versionOf s) (space idSize s) (countOf s) rs ps → (k : ℕ)
+      → ((code ≡ not-spelled) × (value values 0 ≡ k)) ↔ StopsAt idSize (versionOf s) (space idSize s) (countOf s) k
+  read-returns-5-exactly header trailer room k =
+      by-number-and-value call (claims.refusal-5-exactly s rs ps ns slices (record { header = header; trailer = trailer }) room k) (λ e. omega arith) refl refl refl
+
+  -- 1: the file is shorter than header and trailer
+  pub read-returns-1-exactly : (code ≡ short-file) ↔ (length s < headerLength + idSize)
+  read-returns-1-exactly = by-number call (claims.refusal-1-exactly s rs ps ns slices) (λ e. omega arith) refl (λ x. refl)
+
+  -- 2: it is not, and does not begin with "DIRC"
+  pub read-returns-2-exactly : (code ≡ no-signature) ↔ ((headerLength + idSize ≤ length s) × ¬ (take 4 s ≡ DIRC))
+  read-returns-2-exactly = by-number call (claims.refusal-2-exactly s rs ps ns slices) (λ e. omega arith) refl (λ x. refl)
+
+  -- 3 with the version: it does, and the version is none of 2, 3, 4
+  pub read-returns-3-exactly : (v : ℕ)
+      → ((code ≡ other-version) × (value values 0 ≡ v)) ↔ ((headerLength + idSize ≤ length s) × (take 4 s ≡ DIRC) × (¬ Supported (versionOf s)) × (v ≡ versionOf s))
+  read-returns-3-exactly v = by-number-and-value call (claims.refusal-3-exactly s rs ps ns slices v) (λ e. omega arith) refl refl refl
+
+  -- 4: the header is good, and the trailer is neither zeros nor the SHA-1 of the rest
+  pub read-returns-4-exactly : (code ≡ bad-trailer) ↔ (GoodHeader idSize s × ¬ GoodTrailer s)
+  read-returns-4-exactly = by-number call (claims.refusal-4-exactly s rs ps ns slices) (λ e. omega arith) refl (λ x. refl)
+
+  -- 6 with k: the first k entries have room, and one more is spelled, which has none
+  pub read-returns-6-exactly : (k : ℕ) → ((code ≡ no-entry-room) × (value values 0 ≡ k)) ↔ (Opened s × LacksRoomAt idSize (versionOf s) (space idSize s) (countOf s) rs ps k)
+  read-returns-6-exactly k = by-number-and-value call (claims.refusal-6-exactly s rs ps ns slices k) (λ e. omega arith) refl refl refl
+
+  -- 7 with a place: all entries are spelled and have room, and from that place on stand bytes that begin with no extension
+  pub read-returns-7-exactly : (place : ℕ)
+      → ((code ≡ not-filled) × (value values 0 ≡ place)) ↔ (Opened s × Behind s rs ps ns slices (λ b c ms. Faulty (headerLength + length b) c (stray place)))
+  read-returns-7-exactly place = by-number-and-value call (claims.refusal-7-exactly s rs ps ns slices place) (λ e. omega arith) refl refl refl
+
+  -- 8 with a signature, big-endian: all entries are spelled and have room, and behind them stands an extension that may not
+  pub read-returns-8-exactly : (v : ℕ)
+      → ((code ≡ mandatory) × (value values 0 ≡ v))
+      ↔ (Opened s × Behind s rs ps ns slices (λ b c ms. (signature : List ℕ) × Faulty (headerLength + length b) c (refused signature) × (v ≡ bigEndian signature)))
+  read-returns-8-exactly v = by-number-and-value call (claims.refusal-8-exactly s rs ps ns slices v) (λ e. omega arith) refl refl refl
+
+  -- 9: extensions stand behind the entries, and in the last TREE a node should begin one level below the limit, after no more heads than nodes are lent
+  pub read-returns-9-exactly : (code ≡ too-deep) ↔ (Opened s × BehindIsTREE s rs ps ns slices (λ place body. GoesTooDeep idSize body depthLimit (lent ns)))
+  read-returns-9-exactly = by-number call (claims.refusal-9-exactly s rs ps ns slices) (λ e. omega arith) refl (λ x. refl)
+
+  -- 10: not so, but one should begin after as many heads as nodes are lent
+  pub read-returns-10-exactly : (code ≡ no-node-room)
+      ↔ (Opened s × BehindIsTREE s rs ps ns slices (λ place body. UsesUp idSize body (lent ns) × ¬ GoesTooDeep idSize body depthLimit (lent ns)))
+  read-returns-10-exactly = by-number call (claims.refusal-10-exactly s rs ps ns slices) (λ e. omega arith) refl (λ x. refl)
+
+  -- no other number is ever returned
+  pub read-returns-0-to-10 : code ≤ no-node-room
+  read-returns-0-to-10 = code-small call
+
+  -- a refusal tells one value; the other seven are 0
+  pub read-refusal-tells-one-value : (code ≡ 0 → ⊥) → values ≡ value values 0 ∷ 0 ∷ 0 ∷ 0 ∷ 0 ∷ 0 ∷ 0 ∷ 0 ∷ []
+  read-refusal-tells-one-value = one-value-told call
+
+  -- and whatever is returned, numbers and all three stores are those of one rule of 01's table, "When the desk says no", of which none is left out (`SaysFile` of claims)
+  pub read-answers-by-the-table : (a : Answer) × (code ≡ numberOf a) × (values ≡ readValues a) × SaysFile s rs ps ns (outcome a rs′ ps′ ns′)
+  read-answers-by-the-table = (reading s rs ps ns .answer, number-told call, values-told call, subst (SaysFile s rs ps ns) (left call) (reader.answer-says s rs ps ns slices))
+
+  -- ---- 2. WHAT IT TELLS WHERE IT RETURNED 0: the file has exactly one meaning, and the values are that meaning's version, whether it is sparse, whether it has a tree, how many entries, how
+  -- many bytes of paths and how many nodes it has
+  pub read-tells-the-one-meaning : code ≡ 0 → (m : Index) × File idSize s m × ((o : Index) → File idSize s o → o ≡ m)
+      × (values ≡ m .version ∷ bit (m .sparse) ∷ bit (hasTree (m .tree)) ∷ length (m .entries) ∷ length (pathsBytes (m .entries)) ∷ nodesOf (m .tree) ∷ 0 ∷ 0 ∷ [])
+  read-tells-the-one-meaning e =
+      let (m, x, y, one) = claims.accepted-is-the-one-meaning s rs ps ns slices (zero-is-read call e) in
+      (m, x, one, values-told call ∙ ap readValues (y .answer))
+
+-- ---- AFTER A CALL THAT RETURNED 0, on a file that means m (by the sentence before there is such an m, and no other). A caller lends on the records and nodes that were told, of the stores as
+-- they were left, and the path store.
+
+module _ {s rs ps ns values rs′ ps′ ns′ : List ℕ} {code : ℕ} (call : ReadCall s rs ps ns code values rs′ ps′ ns′) (slices : Slices s ps ns) (returned : code ≡ 0) (m : Index) (means : File idSize s m) where
+  -- ---- 3. THE RECORDS
+
+  -- `sparrowpivot_record` tells entry i: mode, flags, stage, where its path starts and ends in the path store, that it lies there, that there is such a record, and the size of its file
+  pub record-tells-the-entry : {i code₁ : ℕ} {values₁ : List ℕ} {e : Meaning} → EntryIs (m .entries) i e → RecordCall (recordsTold values rs′) ps′ i code₁ values₁
+      → (start : ℕ) × (end : ℕ) × (code₁ ≡ 0) × (values₁ ≡ e .stat .mode ∷ e .flags ∷ stageOf e ∷ start ∷ end ∷ 1 ∷ 1 ∷ e .stat .size ∷ []) × Stands ps′ start end (e .path)
+  record-tells-the-entry {i} {e = e} q c =
+      let x = tables-show call slices returned m means .entries i e q in
+      let (a, b) = record-told x (record-tells c) in
+      (x .start, x .start + length (e .path), a, b, path-stands x)
+
+  -- `sparrowpivot_record_stat` tells the rest of its numbers
+  pub record-stat-tells-the-entry : {i code₁ : ℕ} {values₁ : List ℕ} {e : Meaning} → EntryIs (m .entries) i e → RecordStatCall (recordsTold values rs′) i code₁ values₁
+      → (code₁ ≡ 0)
+      × (values₁ ≡ e .stat .ctime ∷ e .stat .ctime-nanos ∷ e .stat .mtime ∷ e .stat .mtime-nanos ∷ e .stat .dev ∷ e .stat .ino ∷ e .stat .uid ∷ e .stat .gid ∷ [])
+  record-stat-tells-the-entry {i} {e = e} q c = stat-told (tables-show call slices returned m means .entries i e q) (record-stat-tells c)
+
+  -- `sparrowpivot_record_id` tells its id
+  pub record-id-tells-the-entry : {i : ℕ} {out′ : List ℕ} {e : Meaning} → EntryIs (m .entries) i e → RecordIdCall (recordsTold values rs′) i out′ → out′ ≡ e .id
+  record-id-tells-the-entry {i} {e = e} q c = record-id-tells c ∙ tables-show call slices returned m means .entries i e q .id
+
+  -- and behind the last entry there is no record: all eight values are 0
+  pub no-record-behind-the-entries : {i code₁ : ℕ} {values₁ : List ℕ} → length (m .entries) ≤ i → RecordCall (recordsTold values rs′) ps′ i code₁ values₁
+      → (code₁ ≡ 0) × (values₁ ≡ 0 ∷ 0 ∷ 0 ∷ 0 ∷ 0 ∷ 0 ∷ 0 ∷ 0 ∷ [])
+  no-record-behind-the-entries {i} h c = no-record-told (recordsTold values rs′) i (omega (arith, records-are call slices returned m means)) ps′ (record-tells c)
+
+  -- ---- 4. THE NODES, where the meaning has a tree: its rows are its nodes in file order, each with its parent's number (`rows`)
+  module _ (t : Tree) (has : m .tree ≡ some t) where
+    -- as many as `values[5]` tells
+    pub nodes-told-are-the-rows : length (rows t) ≡ value values 5
+    nodes-told-are-the-rows = rows-many t none 0 ∙ sym (ap nodesOf has) ∙ sym (ap (λ (l : List ℕ). value l 5) (meaning-told call slices returned m means))
+
+    there : {i : ℕ} {r : Row} → RowIs (rows t) i r → i < nodesIn (nodesTold values ns′)
+    there {i} {r} q = omega (arith, row-within (rows t) i r q, rows-many t none 0, ap nodesOf has, nodes-are call slices returned m means)
+
+    -- `sparrowpivot_node` tells row i: where its name starts and ends in the file, how many entries it covers (two's complement), how many subtrees it has, its parent's number (all ones for
+    -- the root), and that there is such a node
+    pub node-tells-the-row : {i code₁ : ℕ} {values₁ : List ℕ} {r : Row} → RowIs (rows t) i r → NodeCall (nodesTold values ns′) i code₁ values₁
+        → (code₁ ≡ 0) × (values₁ ≡ r .place ∷ (r .place + length (r .name)) ∷ countWord (r .count) ∷ r .subtrees ∷ parentWord (r .parent) ∷ 1 ∷ 0 ∷ 0 ∷ []) × Stands s (r .place) (r .place + length (r .name)) (r .name)
+    node-tells-the-row {i} {r = r} q c =
+        let x = rows-shown s (nodesTold values ns′) t (tables-show call slices returned m means .tree t has) i r q in
+        let y = row-spelled means has i r q in
+        let (a, b) = node-told (there q) x y (node-tells c) in
+        (a, b, name-stands (there q) x y)
+
+    -- `sparrowpivot_node_id` tells its id, zeros where it is invalid
+    pub node-id-tells-the-row : {i : ℕ} {out′ : List ℕ} {r : Row} → RowIs (rows t) i r → NodeIdCall (nodesTold values ns′) i out′ → out′ ≡ idTold (r .count) (r .id)
+    node-id-tells-the-row {i} {r = r} q c =
+        node-id-tells c ∙ node-id-told (there q) (rows-shown s (nodesTold values ns′) t (tables-show call slices returned m means .tree t has) i r q) (row-spelled means has i r q)
+
+  -- and behind the last node, and where the meaning has no tree, there is no node: all eight values are 0
+  pub no-node-behind-the-tree : {i code₁ : ℕ} {values₁ : List ℕ} → nodesOf (m .tree) ≤ i → NodeCall (nodesTold values ns′) i code₁ values₁ → (code₁ ≡ 0) × (values₁ ≡ 0 ∷ 0 ∷ 0 ∷ 0 ∷ 0 ∷ 0 ∷ 0 ∷ 0 ∷ [])
+  no-node-behind-the-tree {i} h c = no-node-told (nodesTold values ns′) i (omega (arith, nodes-are call slices returned m means)) (node-tells c)
+
+  -- ---- 5. ORDER AND LOOKUP, over these records
+
+  -- `sparrowpivot_check_order` returns 0 exactly if the entries are strictly in order
+  pub check-order-returns-0-exactly : {code₁ : ℕ} {values₁ : List ℕ} → CheckOrderCall (recordsTold values rs′) ps′ code₁ values₁ → (code₁ ≡ 0) ↔ InOrder (m .entries)
+  check-order-returns-0-exactly c = searching.order-0-exactly c (m .entries) (tables-show call slices returned m means .entries) (records-are call slices returned m means)
+
+  -- 13 with i exactly when entry i is the first that does not come strictly after the one before
+  pub check-order-returns-13-exactly : {code₁ : ℕ} {values₁ : List ℕ} → CheckOrderCall (recordsTold values rs′) ps′ code₁ values₁ → (i : ℕ)
+      → ((code₁ ≡ not-after) × (value values₁ 0 ≡ i)) ↔ FirstNotAfter (m .entries) i
+  check-order-returns-13-exactly c = searching.order-13-exactly c (m .entries) (tables-show call slices returned m means .entries) (records-are call slices returned m means)
+
+  -- and nothing else: no path of what was read lies outside
+  pub check-order-returns-0-or-13 : {code₁ : ℕ} {values₁ : List ℕ} → CheckOrderCall (recordsTold values rs′) ps′ code₁ values₁ → (code₁ ≡ 0) ⊎ (code₁ ≡ not-after)
+  check-order-returns-0-or-13 c = searching.order-0-or-13 c (m .entries) (tables-show call slices returned m means .entries) (records-are call slices returned m means)
+
+  -- `sparrowpivot_lookup` returns 11 exactly if a stage above 3 is looked for
+  pub lookup-returns-11-exactly : {key : List ℕ} {stage code₁ : ℕ} {values₁ : List ℕ} → LookupCall (recordsTold values rs′) ps′ key stage code₁ values₁ → (code₁ ≡ no-stage) ↔ (highestStage < stage)
+  lookup-returns-11-exactly c = searching.lookup-11-exactly c
+
+  module _ (order : InOrder (m .entries)) {key : List ℕ} {stage code₁ : ℕ} {values₁ : List ℕ} (c : LookupCall (recordsTold values rs′) ps′ key stage code₁ values₁) (small : stage ≤ highestStage) where
+    -- if the entries are in order, at stages 0 to 3 it returns 0
+    pub lookup-returns-0 : code₁ ≡ 0
+    lookup-returns-0 = searching.lookup-0 c (m .entries) (tables-show call slices returned m means .entries) (records-are call slices returned m means) order small
+
+    -- tells 1 and i exactly if entry i has that path and stage
+    pub lookup-tells-i-exactly : (i : ℕ) → ((value values₁ 0 ≡ 1) × (value values₁ 1 ≡ i)) ↔ EntryHas (m .entries) key stage i
+    lookup-tells-i-exactly = searching.lookup-finds-exactly c (m .entries) (tables-show call slices returned m means .entries) (records-are call slices returned m means) order small
+
+    -- and 0 exactly if no entry has them
+    pub lookup-tells-none-exactly : (value values₁ 0 ≡ 0) ↔ ((i : ℕ) → ¬ EntryHas (m .entries) key stage i)
+    lookup-tells-none-exactly = searching.lookup-finds-none-exactly c (m .entries) (tables-show call slices returned m means .entries) (records-are call slices returned m means) order small
