@@ -7,6 +7,7 @@ use mathlib.Core.Bool.{Bool, true, false}
 use mathlib.Core.List.{List, _++_}
 use mathlib.Core.Logic.{_⊎_, inl, inr, ⊎-elim, _↔_}
 use native.Mathlib.Omega.{arith}
+use lib.Dec.{ltb}
 use lib.ListN.{length, drop}
 use Rattle.laws.specs.Pick.{pick}
 use Rattle.laws.specs.Tests.{Less, less, not-less, less?, lt-or-ge}
@@ -298,3 +299,17 @@ module _ (rs ps ns nm : List ℕ) (o : Options) (out : List ℕ) where
     where
       to : {size : ℕ} → Says rs ps ns nm o out (ShortOutput size) → MayBeWritten rs ps ns nm o × (size ≡ fileSize idSize rs ps ns nm o) × (length out < size)
       to (says-short m s) = (m, refl, s)
+
+  -- a writer that is not done leaves the output as it was
+  pub refused-leaves-the-output : ¬ IsDone (writing .answer) → writing .out ≡ out
+  unfolding writeAll writeFile
+  refused-leaves-the-output = by (firstFault rs ps (recordsIn rs) 0) (treeFits depthLimit ns nm (writesTree o)) (ltb most (recordsIn rs)) (ltb most (length body)) (ltb (length out) (length whole))
+    where
+      by : (f : First) (t a b c : Bool)
+          → ¬ IsDone ((onFirst f (λ i. outcome (PathOutside i) out) (pick t (last a b c) (outcome NotProper out))) .answer) → (onFirst f (λ i. outcome (PathOutside i) out) (pick t (last a b c) (outcome NotProper out))) .out ≡ out
+      by (found i) t a b c n = refl
+      by nowhere false a b c n = refl
+      by nowhere true true b c n = refl
+      by nowhere true false true c n = refl
+      by nowhere true false false true n = refl
+      by nowhere true false false false n = absurd (n (versionOf rs, length whole, refl))

@@ -28,7 +28,7 @@ use Rattle.write.specs.File.{headerOf, versionOf, treeHead, sparsePart, content
 use Rattle.write.specs.Parts.{file-parts, length-header, length-tree-head, length-sparse, length-eoie, length-trailer}
 use Rattle.claims_write.specs.Tree.{total, hits, total-zero, total-sum, total-same, kidsOf, kids-are, Level, root, below, level-within}
 use Rattle.claims_write.specs.Count.{walk, walk-inside, met-once}
-use Rattle.claims_write.specs.Sizes.{treeAsked, eoieAsked, fixedSize, entrySize, recordSize, entriesSize, extensionsPlace, digitsWithin, digits, countSize, nodeSize, treeSize, extensionSize, sizeBeforeEoie, fileSize}
+use Rattle.claims_write.specs.Sizes.{treeAsked, eoieAsked, fixedSize, entrySize, writtenSize, entriesSize, extensionsPlace, digitsWithin, digits, countSize, nodeSize, treeSize, extensionSize, sizeBeforeEoie, fileSize}
 
 -- ---- entries
 
@@ -41,7 +41,7 @@ fixed-is id flags = by (bit extended flags)
     by false = omega arith
 
 module _ (id : ℕ) (rs ps : List ℕ) (small : id ≤ 32) where
-  record-length : (i : ℕ) → i < recordsIn rs → length (recordBytes id rs ps (beforeAt rs ps i) i) ≡ recordSize id rs ps i
+  record-length : (i : ℕ) → i < recordsIn rs → length (recordBytes id rs ps (beforeAt rs ps i) i) ≡ writtenSize id rs ps i
   unfolding recordBytes
   record-length i h = by (bit removed (flagsAt rs i))
     where
@@ -49,7 +49,7 @@ module _ (id : ℕ) (rs ps : List ℕ) (small : id ≤ 32) where
       by true = refl
       by false = omega (arith, length-entry id rs i (pathAt rs ps i) small h, fixed-is id (flagsAt rs i))
 
-  pub entries-length : (k i : ℕ) → i + k ≤ recordsIn rs → length (entriesBytes id rs ps k i) ≡ total (recordSize id rs ps) k i
+  pub entries-length : (k i : ℕ) → i + k ≤ recordsIn rs → length (entriesBytes id rs ps k i) ≡ total (writtenSize id rs ps) k i
   unfolding entriesBytes total
   entries-length zero i h = refl
   entries-length (suc k) i h =

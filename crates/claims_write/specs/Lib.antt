@@ -16,4 +16,5 @@ pub mod Claims
 pub mod Sizes
 pub mod Lengths
 pub mod Answers
+pub mod Asked
 pub mod Example

@@ -44,11 +44,11 @@ abbrev pub entrySize : ℕ → List ℕ → List ℕ → ℕ → ℕ
 entrySize id rs ps i = padded (fixedSize id (flagsAt rs i) + length (pathAt rs ps i))
 
 -- "REMOVE records are skipped"
-abbrev pub recordSize : ℕ → List ℕ → List ℕ → ℕ → ℕ
-recordSize id rs ps i = pick (bit removed (flagsAt rs i)) 0 (entrySize id rs ps i)
+abbrev pub writtenSize : ℕ → List ℕ → List ℕ → ℕ → ℕ
+writtenSize id rs ps i = pick (bit removed (flagsAt rs i)) 0 (entrySize id rs ps i)
 
 abbrev pub entriesSize : ℕ → List ℕ → List ℕ → ℕ
-entriesSize id rs ps = total (recordSize id rs ps) (recordsIn rs) 0
+entriesSize id rs ps = total (writtenSize id rs ps) (recordsIn rs) 0
 
 -- where the extensions start
 abbrev pub extensionsPlace : ℕ → List ℕ → List ℕ → ℕ
