@@ -29,9 +29,9 @@ use Rattle.claims.specs.Premises.{Slices, zeros}
 use Rattle.claims.specs.Said.{Opened}
 use Rattle.claims.specs.Claims.{TreeFits}
 use Rattle.claims.specs.Example.{none-last}
+use Rattle.write.specs.declared.Options.{Options}
 use Rattle.claims_write.specs.Meaning.{keptFrom, WritableTable}
-use Rattle.claims_write.specs.Claims.{Roomy}
-use Rattle.claims_frauds.specs.Demands.{Readable}
+use Rattle.claims_frauds.specs.Demands.{Readable, Case, LargeEnough}
 
 -- ---- the file: version 2, one entry, path "ab" behind a length field of 4095, no extension, a trailer of zeros
 
@@ -99,9 +99,29 @@ writable (suc zero) h stays = record { path = λ q. byte (lit< tt) empty; mode =
 writable (suc (suc zero)) h stays = record { path = λ q. byte (lit< tt) (byte (lit< tt) (byte (lit< tt) empty)); mode = refl; marks = λ e. refl }
 writable (suc (suc (suc i))) h stays = let few : suc (suc (suc i)) < 3 = h in absurd (omega arith)
 
-pub roomy : Roomy table store [] (record { tree = false; cache = false; eoie = false; sparse = false; unhashed = true }) (replicate 288 0) (replicate 5 0) []
+-- all that is written is the records
+abbrev pub plain : Options
+plain = record { tree = false; cache = false; eoie = false; sparse = false; unhashed = true }
+
+abbrev pub case : List ℕ → ℕ → ℕ → Case
+case out version size =
+    record {
+      records = table;
+      paths = store;
+      nodes = [];
+      names = [];
+      options = plain;
+      out = out;
+      version = version;
+      size = size;
+      records′ = replicate 288 0;
+      paths′ = replicate 5 0;
+      nodes′ = [];
+    }
+
+pub roomy : (out : List ℕ) (version size : ℕ) → LargeEnough (case out version size)
 unfolding table row store recordOf frontOf restOf fieldAt liesInside pathAt beAt bytesOf keepMode keptFrom pathsBytes
-roomy = record { records = lit≤ tt; paths = lit≤ tt; nodes = λ e. lit≤ tt }
+roomy out version size = record { records = lit≤ tt; paths = lit≤ tt; nodes = λ e. lit≤ tt }
 
 -- ---- two messages: none, and one byte
 

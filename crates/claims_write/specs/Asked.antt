@@ -213,19 +213,18 @@ module _ (rs ps ns nm : List ℕ) (o : Options) (out : List ℕ) (version size :
       ap (λ (l : List ℕ). drop size l) (d .after-is) ∙ drop-at w (drop (length w) out) size (sym (d .size-is)) ∙ ap (λ (k : ℕ). drop k out) (sym (d .size-is))
 
   -- so it is spelled by the grammar, and means the table
-  pub written-means : length ns < 2 ^ 64 → PathsEnd rs ps → (m : Index) × Means rs ps o version m × File idSize (fileIn rs ps ns nm o out version size done) m
-  written-means few ends =
-      let d = done-says rs ps ns nm o out version size done in (
-        indexOf rs ps ns nm o,
-        record {
-          version-is = sym (d .version-is);
-          entries-are = refl;
-          sparse-tells = tells-either (o .sparse) refl (sparse-tells (meaningsOf idSize rs ps));
-          tree-as-asked = tree-there (writesTree o) refl ∙ writes-tree-is o;
-        },
-        written-is-spelled rs ps ns nm o out version size done ends,
-      )
+  pub index-means : length ns < 2 ^ 64 → Means rs ps o version (indexOf rs ps ns nm o)
+  index-means few =
+      record {
+        version-is = sym (done-says rs ps ns nm o out version size done .version-is);
+        entries-are = refl;
+        sparse-tells = tells-either (o .sparse) refl (sparse-tells (meaningsOf idSize rs ps));
+        tree-as-asked = tree-there (writesTree o) refl ∙ writes-tree-is o;
+      }
     where
       tree-there : (t : Bool) → writesTree o ≡ t → hasTree (treeMeant rs ps ns nm o) ≡ writesTree o
       tree-there true e = ap hasTree (tree-is-meant rs ps ns nm o out version size done few e) ∙ sym e
       tree-there false e = ap (λ (t : Bool). hasTree (pick t (readTree idSize (treePlace rs ps) (treeBody ns nm)) none)) e ∙ sym e
+
+  pub written-means : length ns < 2 ^ 64 → PathsEnd rs ps → (m : Index) × Means rs ps o version m × File idSize (fileIn rs ps ns nm o out version size done) m
+  written-means few ends = (indexOf rs ps ns nm o, index-means few, written-is-spelled rs ps ns nm o out version size done ends)
