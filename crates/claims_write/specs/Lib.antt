@@ -13,4 +13,8 @@ pub mod Eoie
 pub mod Kept
 pub mod Reading
 pub mod Claims
+pub mod Sizes
+pub mod Lengths
+pub mod Answers
+pub mod Asked
 pub mod Example

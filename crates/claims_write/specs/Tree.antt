@@ -132,12 +132,12 @@ unfoldable pub hits : List ℕ → ℕ → ℕ
 hits [] j = 0
 hits (x ∷ l) j = pick (eqb x j) 1 0 + hits l j
 
-total-zero : (k j : ℕ) → total (λ x. 0) k j ≡ 0
+pub total-zero : (k j : ℕ) → total (λ x. 0) k j ≡ 0
 unfolding total
 total-zero zero j = refl
 total-zero (suc k) j = omega (arith, total-zero k (j + 1))
 
-total-sum : (f g : ℕ → ℕ) (k j : ℕ) → total (λ x. f x + g x) k j ≡ total f k j + total g k j
+pub total-sum : (f g : ℕ → ℕ) (k j : ℕ) → total (λ x. f x + g x) k j ≡ total f k j + total g k j
 unfolding total
 total-sum f g zero j = refl
 total-sum f g (suc k) j = omega (arith, total-sum f g k (j + 1))
