@@ -6,6 +6,7 @@ pub mod Extensions
 pub mod Spelled
 pub mod Tree
 pub mod Count
+pub mod ProperTable
 pub mod Listed
 pub mod Stored
 pub mod Trees

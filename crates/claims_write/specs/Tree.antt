@@ -68,7 +68,7 @@ nul-never (suc f) (c ∷ l) i h e = by (same? c 0) (λ q. nul-never f l (i + 1) 
     by (same z) ih e = absurd (false-true e)
     by (differs d) ih e = let p : 0 < c = omega arith in byte p (ih e)
 
-no-nul : (name : List ℕ) → holdsNone name ≡ true → NoNul name
+pub no-nul : (name : List ℕ) → holdsNone name ≡ true → NoNul name
 unfolding holdsNone nulAt
 no-nul name e = nul-never (length name - 0) name 0 (omega arith) e
 
@@ -277,7 +277,7 @@ other-names : (name : ℕ → List ℕ) (x : ℕ) (l : List ℕ) → ((y : ℕ) 
 other-names name x [] h = alone
 other-names name x (y ∷ l) h = other-differs (h y here) (other-names name x l (λ z m. h z (there m)))
 
-distinct-names : (name : ℕ → List ℕ) (R : ℕ → ℕ → Type 0) → ((x : ℕ) → R x x → ⊥) → {l : List ℕ} → Rising R l → ((x y : ℕ) → Mem x l → Mem y l → name x ≡ name y → x ≡ y) → Distinct (map name l)
+pub distinct-names : (name : ℕ → List ℕ) (R : ℕ → ℕ → Type 0) → ((x : ℕ) → R x x → ⊥) → {l : List ℕ} → Rising R l → ((x y : ℕ) → Mem x l → Mem y l → name x ≡ name y → x ≡ y) → Distinct (map name l)
 distinct-names name R irr done h = no-names
 distinct-names name R irr (more {x = x} {xs = l} r rest) h =
     one-more (other-names name x l (λ y m e. irr x (subst (R x) (sym (h x y here (there m) e)) (r y m)))) (distinct-names name R irr rest (λ y z a b e. h y z (there a) (there b) e))
