@@ -14,4 +14,5 @@ pub mod Eoie
 pub mod Kept
 pub mod Reading
 pub mod Claims
+pub mod Whole
 pub mod Example
