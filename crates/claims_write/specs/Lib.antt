@@ -14,5 +14,8 @@ pub mod Eoie
 pub mod Kept
 pub mod Reading
 pub mod Claims
+pub mod SameTree
+pub mod Forest
+pub mod TreeBack
 pub mod Whole
 pub mod Example

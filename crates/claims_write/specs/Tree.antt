@@ -316,7 +316,7 @@ rising-names ns nm (more {x = x} r (more {x = y} q rest)) h =
     then-name (before-names ns nm x y (r y here) (h x y here (there here))) (rising-names ns nm (more q rest) (λ a b m k e. h a b (there m) (there k) e))
 
 module _ (n limit : ℕ) (ns nm : List ℕ) (small : n ≤ 32) (few : length ns < 2 ^ 64) (proper : Proper limit ns nm) where
-  same-name : (i : ℕ) → i < nodesIn ns → (x y : ℕ) → Mem x (kidsOf ns nm i) → Mem y (kidsOf ns nm i) → nameAt nm ns x ≡ nameAt nm ns y → x ≡ y
+  pub same-name : (i : ℕ) → i < nodesIn ns → (x y : ℕ) → Mem x (kidsOf ns nm i) → Mem y (kidsOf ns nm i) → nameAt nm ns x ≡ nameAt nm ns y → x ≡ y
   same-name i h x y a b e =
       let d : DistinctAt nm ns i 1 (nodesIn ns) = differ-distinct nm ns i 1 (nodesIn ns) (proper .distinct i h) in
       let (x₁, x₂, x₃) = kids-are ns nm i x a in
