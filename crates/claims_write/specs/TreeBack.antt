@@ -19,9 +19,22 @@ use Rattle.sha1.specs.Sha1.{sha1}
 use Rattle.node.specs.Head.{minusOne}
 use Rattle.node.specs.Store.{idRoom, nodesIn, wordAt, parentAt, idAt, partOf, nameAt}
 use Rattle.tree_write.specs.Kids.{Mem, here, there}
+use Rattle.write.specs.declared.Options.{Options}
+use Rattle.write.specs.declared.Answer.the-variants.{Done}
+use Rattle.write.specs.File.{headerOf, treeHead, extensionHead, sparsePart, eoiePart, trailerOf, extensionsOf, treeOf, writesTree, treeSignature, offsetOf, versionOf, writeAll}
+use Rattle.write.specs.Parts.{length-head, length-header}
+use Rattle.write.specs.Entries.{tableBytes}
+use Rattle.grammar.specs.Tree.{Tree, Node}
+use Rattle.claims_entries.specs.Place.{Lies, lies-left, lies-right, lies-at}
+use Rattle.claims.specs.Premises.{Slices}
+use Rattle.claims_tree.specs.Rendering.{treeBytes, filled}
 use Rattle.proper.specs.Table.{Proper}
 use Rattle.claims_tree.specs.Shown.{ShowsTree, tree-length, rendered-is-shown}
 use Rattle.claims_write.specs.Tree.{hits, root, treeAt}
+use Rattle.claims_write.specs.Meaning.{PathsEnd}
+use Rattle.claims_write.specs.Spelled.{treeBody, treePlace, written, behindEntries, before, count, has, toc, written-parts, file-is}
+use Rattle.claims_write.specs.Trees.{treeWritten, proper, written-tree-is-spelled, written-tree-nodes}
+use Rattle.claims_write.specs.Claims.{bytes, reading, Roomy, tree-reads-back}
 use Rattle.claims_write.specs.Count.{walk, met-once, walk-inside, walk-length}
 use Rattle.claims_write.specs.SameTree.{SameNode, SameTree}
 use Rattle.claims_write.specs.Forest.{Forest, forest-nodes, forest-parents, forest-parent, forest-by-name, forest-in-order, Planted, planted}
@@ -131,3 +144,113 @@ module _ (n limit : ℕ) (ns nm : List ℕ) (small : n ≤ idRoom) (few : length
               let f : 0 + 1 + q ≡ suc q = omega arith in
               let p : parentAt ms (suc j) ≡ suc q = ap (parentAt ms) (sym e) ∙ a ∙ f in
               (omega arith, ap at p ∙ at-later q ∙ sym (ap (parentAt ns) (at-later j) ∙ b))
+
+-- ---- what stands behind the nodes changes none of them
+
+module _ (a b : List ℕ) (j : ℕ) (h : j < nodesIn a) where
+  more-room : j < nodesIn (a ++ b)
+  more-room = omega (arith, length-append a b)
+
+  same-word : (k : ℕ) → k + 8 ≤ 72 → wordAt k (a ++ b) j ≡ wordAt k a j
+  unfolding wordAt
+  same-word k l = rw (lt-ltb j (nodesIn (a ++ b)) more-room, lt-ltb j (nodesIn a) h) (be-left 8 a b (j * 72 + k) (omega arith))
+
+  same-id : (n : ℕ) → n ≤ idRoom → idAt n (a ++ b) j ≡ idAt n a j
+  unfolding idAt
+  same-id n l =
+      let k : ℕ = j * 72 + 40 in
+      rw (lt-ltb j (nodesIn (a ++ b)) more-room, lt-ltb j (nodesIn a) h)
+      (ap (take n) (drop-append-le k a b (omega arith)) ∙ take-append-le n (drop k a) b (omega (arith, length-drop k a)))
+
+  same-name : (s : List ℕ) → nameAt s (a ++ b) j ≡ nameAt s a j
+  unfolding nameAt
+  same-name s = ap (λ (m : ℕ). partOf s m (wordAt 8 (a ++ b) j)) (same-word 0 (lit≤ tt)) ∙ ap (λ (m : ℕ). partOf s (wordAt 0 a j) m) (same-word 8 (lit≤ tt))
+
+  same-node-behind : (n : ℕ) → n ≤ idRoom → (ns nm : List ℕ) (i : ℕ) (s : List ℕ) → SameNode n ns nm i s a j → SameNode n ns nm i s (a ++ b) j
+  same-node-behind n l ns nm i s x = record {
+    name = same-name s ∙ x .name;
+    spans = same-word 8 (lit≤ tt) ∙ x .spans ∙ ap (λ (m : ℕ). m + length (nameAt nm ns i)) (sym (same-word 0 (lit≤ tt)));
+    count = same-word 16 (lit≤ tt) ∙ x .count;
+    subtrees = same-word 24 (lit≤ tt) ∙ x .subtrees;
+    id = λ d. same-id n l ∙ x .id d;
+    no-id = λ e. same-id n l ∙ x .no-id e;
+  }
+
+-- so a tree in front of a store is in the store
+in-front : (n : ℕ) → n ≤ idRoom → (ns nm s a b : List ℕ) (at : ℕ → ℕ) → 0 < nodesIn ns → SameTree n ns nm s a at → SameTree n ns nm s (a ++ b) at
+in-front n small ns nm s a b at some x = record {
+  room = omega (arith, x .room, length-append a b);
+  inside = x .inside;
+  stored = x .stored;
+  once = x .once;
+  nodes = λ j h. same-node-behind a b j (there-too j h) n small ns nm (at j) s (x .nodes j h);
+  first = x .first;
+  root = same-parent 0 some ∙ x .root;
+  parent = λ j h l. subst (λ (p : ℕ). (p < j) × (at p ≡ parentAt ns (at j))) (sym (same-parent j l)) (x .parent j h l);
+  by-name = λ j k h l m e.
+      let i : j < nodesIn ns = omega arith in
+      rw (same-name a b j (there-too j i) s, same-name a b k (there-too k m) s) (x .by-name j k h l m (sym (same-parent j i) ∙ e ∙ same-parent k m));
+  in-order = λ j k h l m e.
+      let i : j < nodesIn ns = omega arith in
+      rw (same-parent k m, same-parent j i) (x .in-order j k h l m (rw (same-parent k m) at e));
+}
+  where
+    there-too : (j : ℕ) → j < nodesIn ns → j < nodesIn a
+    there-too j h = omega (arith, x .room)
+
+    same-parent : (j : ℕ) → j < nodesIn ns → parentAt (a ++ b) j ≡ parentAt a j
+    same-parent j h = same-word a b j (there-too j h) 32 (lit≤ tt)
+
+-- ---- where TREE's body stands in the file
+
+module _ (rs ps ns nm : List ℕ) (o : Options) (asked : writesTree o ≡ true) where
+  body-lies : Lies (written rs ps ns nm o) (treePlace rs ps) (length (written rs ps ns nm o)) (treeBody ns nm)
+  unfolding extensionsOf treeOf treeHead
+  body-lies =
+      let w : List ℕ = written rs ps ns nm o in
+      let h : List ℕ = headerOf (versionOf rs) (count rs ps ns nm o) in
+      let t : List ℕ = tableBytes idSize rs ps in
+      let b : List ℕ = behindEntries rs ps ns nm o in
+      let r : List ℕ = trailerOf idSize sha1 (o .unhashed) (before rs ps ns nm o) in
+      let e : List ℕ = eoiePart idSize sha1 (has rs ps ns nm o) (offsetOf idSize rs ps) (toc rs ps ns nm o) in
+      let body : List ℕ = treeBody ns nm in
+      let head : List ℕ = extensionHead treeSignature (length body) in
+      let sparse : List ℕ = sparsePart (o .sparse) in
+      let parts : b ≡ ((head ++ body) ++ sparse) ++ e =
+      ap (λ (t : Bool). ((pick t (extensionHead treeSignature (length (pick t body []))) [] ++ pick t body []) ++ sparse) ++ e) asked in
+      let all : Lies w 0 (length w) w = record { fits = omega arith; rest = []; is = sym (append-nil w) } in
+      let l₀ : Lies w 0 (length w) (h ++ (t ++ (b ++ r))) = subst (λ (x : List ℕ). Lies w 0 (length w) x) (written-parts rs ps ns nm o) all in
+      let l₁ = lies-left b r (lies-right t (b ++ r) (lies-right h (t ++ (b ++ r)) l₀)) in
+      let l₂ : Lies w (0 + length h + length t) (length w) (((head ++ body) ++ sparse) ++ e) = subst (λ (x : List ℕ). Lies w (0 + length h + length t) (length w) x) parts l₁ in
+      lies-at (lies-right head body (lies-left (head ++ body) sparse (lies-left ((head ++ body) ++ sparse) e l₂)))
+      (omega (arith, length-header (versionOf rs) (count rs ps ns nm o), length-head treeSignature (length body) refl))
+
+-- TREE is written if a table is given and TREE is asked for
+both : (o : Options) → o .tree ≡ true → o .cache ≡ true → writesTree o ≡ true
+unfolding writesTree
+both o given wanted = ap (λ (t : Bool). pick t (o .cache) false) given ∙ wanted
+
+-- ---- THE THEOREM
+
+module _ (rs ps ns nm : List ℕ) (o : Options) (out : List ℕ) (version size : ℕ) (done : writeAll idSize sha1 depthLimit rs ps ns nm o out .answer ≡ Done version size) (few : length ns < 2 ^ 64)
+    (ends : PathsEnd rs ps) (records′ paths′ nodes′ : List ℕ) (slices : Slices (bytes rs ps ns nm o out version size done few ends records′ paths′ nodes′) paths′ nodes′) (roomy : Roomy rs ps ns o records′ paths′ nodes′) where
+  pub tree-reads-back-node-by-node : o .tree ≡ true → o .cache ≡ true
+      → (at : ℕ → ℕ) × SameTree idSize ns nm (bytes rs ps ns nm o out version size done few ends records′ paths′ nodes′) (reading rs ps ns nm o out version size done few ends records′ paths′ nodes′ .nodes) at
+  tree-reads-back-node-by-node given wanted =
+      let file : List ℕ = bytes rs ps ns nm o out version size done few ends records′ paths′ nodes′ in
+      let asked : writesTree o ≡ true = both o given wanted in
+      let fits : Proper depthLimit ns nm = proper rs ps ns nm o out version size done few asked in
+      let t : Tree = treeWritten rs ps ns nm in
+      let spelled : Node idSize (treePlace rs ps) (treeBody ns nm) t = written-tree-is-spelled rs ps ns nm o out version size done few asked in
+      let many : length (treeBytes t) ≡ nodesIn ns * 72 = tree-length idSize (lit≤ tt) t spelled minusOne 0 ∙ ap (λ (k : ℕ). k * 72) (written-tree-nodes rs ps ns nm o out version size done few asked) in
+      let lies : Lies file (treePlace rs ps) (length file) (treeBody ns nm) =
+      subst (λ (f : List ℕ). Lies f (treePlace rs ps) (length f) (treeBody ns nm)) (sym (file-is rs ps ns nm o out version size done)) (body-lies rs ps ns nm o asked) in
+      let shown : ShowsTree file (treeBytes t) minusOne 0 t = rendered-is-shown idSize (lit≤ tt) file (length file) (omega arith) (slices .file) t spelled lies (omega arith) in
+      let same : SameTree idSize ns nm file (treeBytes t) (λ j. getD (walk ns nm depthLimit 0) j 0) =
+      shown-is-same idSize depthLimit ns nm (lit≤ tt) few fits file (treeBytes t) (treePlace rs ps) (omega arith) shown in
+      let left : reading rs ps ns nm o out version size done few ends records′ paths′ nodes′ .nodes ≡ filled nodes′ (treeBytes t) =
+      tree-reads-back rs ps ns nm o out version size done few ends records′ paths′ nodes′ slices roomy asked in (
+        (λ j. getD (walk ns nm depthLimit 0) j 0),
+        subst (λ (m : List ℕ). SameTree idSize ns nm file m (λ j. getD (walk ns nm depthLimit 0) j 0)) (sym left)
+            (in-front idSize (lit≤ tt) ns nm file (treeBytes t) (drop (length (treeBytes t)) nodes′) (λ j. getD (walk ns nm depthLimit 0) j 0) (fits .some) same),
+      )
