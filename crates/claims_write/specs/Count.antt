@@ -59,7 +59,7 @@ level-some : {ns : List ℕ} {k j : ℕ} → Level ns k j → 1 ≤ k
 level-some root = omega arith
 level-some (below a p l) = omega arith
 
-level-found : (ns : List ℕ) (levels j : ℕ) → climbs ns levels j ≡ true → (k : ℕ) × Level ns k j
+pub level-found : (ns : List ℕ) (levels j : ℕ) → climbs ns levels j ≡ true → (k : ℕ) × Level ns k j
 unfolding climbs
 level-found ns zero j e = absurd (false-true e)
 level-found ns (suc levels) j e = by (same? j 0) e (λ f. level-found ns levels (parentAt ns j) f)

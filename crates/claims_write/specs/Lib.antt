@@ -6,6 +6,7 @@ pub mod Extensions
 pub mod Spelled
 pub mod Tree
 pub mod Count
+pub mod ProperTable
 pub mod Listed
 pub mod Stored
 pub mod Trees
@@ -17,4 +18,8 @@ pub mod Sizes
 pub mod Lengths
 pub mod Answers
 pub mod Asked
+pub mod SameTree
+pub mod Forest
+pub mod TreeBack
+pub mod Whole
 pub mod Example
