@@ -17,7 +17,7 @@ use Rattle.access.specs.Marked.{page-sorted}
 use Rattle.access.specs.declared.verify.Verified.the-variants.{Sorted}
 use Rattle.grammar.specs.Number.{VariableWidth}
 use Rattle.grammar.specs.Entry.{Meaning, meaning, keptMode, Before, start, path as behind, Entry}
-use Rattle.grammar.specs.File.{Index, File}
+use Rattle.grammar.specs.File.{Index, headerLength, File}
 use Rattle.grammar.specs.Space.{spelled-has-good-header}
 use Rattle.grammar.specs.DecideNumber.{decided, readBytes, readBig, readGroups, readVariable, readUntil, variable-reads}
 use Rattle.grammar.specs.DecideEntry.{readWords, readFields, readFlags, readCounted, readToNul, readCompressed, readName, readEntry, entry-reads}
@@ -149,7 +149,7 @@ after-page p q strip suffix e =
 pub marked-pages-are-spelled : EachSpelled (spoken pages)
 unfolding pages page pair pear ear entryDecided pathsBytes
 marked-pages-are-spelled =
-    no-index {s = replicate 31 0} {o = untouched ShortFile} (λ m x. let h : 32 ≤ 31 = spelled-has-good-header x .long in omega arith)
+    no-index {s = replicate 31 0} {o = untouched ShortFile} (λ m x. let h : headerLength + idSize ≤ 31 = spelled-has-good-header x .long in omega arith)
     and one-index {o = untouched (Read 2 false false 0 0 0)} _ example.least-file (λ n x. one-meaning idSize _ n _ x example.least-file) refl
     and plain-page 1 1 64 1 (lit≤ tt) refl refl
     and plain-page 2 2 72 8 (lit≤ tt) refl refl

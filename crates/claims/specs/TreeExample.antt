@@ -1,6 +1,6 @@
 -- THE PREMISE ON THE TREE MET, by a file that has a TREE, and missed: the grammar's example of version 2, whose tree has two nodes. With room for two the file
 -- is read, and the node store shows both; with room for one it is refused with 10. Assumes nothing.
-use Prim.Native.Nat.{ℕ, zero, suc, _≤_}
+use Prim.Native.Nat.{ℕ, zero, suc, _-_, _*_, _≤_}
 use mathlib.Core.Path.{_≡_, refl, sym, ap, subst}
 use mathlib.Core.Bool.{true, false}
 use mathlib.Core.List.{List, [], _∷_, _++_}
@@ -10,7 +10,9 @@ use lib.Dec.{lit≤, lit<}
 use lib.ListN.{length, replicate}
 use Rattle.laws.specs.Times.{readTimes, done}
 use Rattle.format.specs.Format.{depthLimit, idSize}
+use Rattle.entry.specs.Layout.{recordSize}
 use Rattle.node.specs.Head.{minusOne}
+use Rattle.node.specs.Store.{nodeSize}
 use Rattle.file.specs.Read.{readFile}
 use Rattle.file.specs.declared.Answer.the-variants.{Read, NoNodeRoom}
 use Rattle.grammar.specs.Entry.{Meaning, start, Entries}
@@ -38,18 +40,18 @@ its-index = index 2 (kept 0 (97 ∷ []) ∷ []) (some (twoNodesAt 84))
 
 -- room for one record and one path byte, and for two nodes, or for two but for one byte
 abbrev records : List ℕ
-records = replicate 96 9
+records = replicate recordSize 9
 
 abbrev paths : List ℕ
 paths = replicate 1 9
 
 abbrev two-nodes : List ℕ
-two-nodes = replicate 144 9
+two-nodes = replicate (2 * nodeSize) 9
 
 abbrev one-node : List ℕ
-one-node = replicate 143 9
+one-node = replicate (2 * nodeSize - 1) 9
 
-slices : (ns : List ℕ) → length ns ≤ 144 → Slices with-tree paths ns
+slices : (ns : List ℕ) → length ns ≤ 2 * nodeSize → Slices with-tree paths ns
 unfolding allBytes
 slices ns h = record { bytes = bytes-if with-tree refl; file = lit< tt; paths = lit< tt; nodes = omega arith }
 
