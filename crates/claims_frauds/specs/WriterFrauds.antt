@@ -1,6 +1,6 @@
 -- FRAUDS OF A WRITER FAIL demand 2: one that refuses all, one that never writes the hash, one that leaves TREE, `sdir` or EOIE out. Each is stated of every such writer, and then of the
 -- plainest by name: ours, which does not hear what is asked for. Assumes nothing.
-use Prim.Native.Nat.{ℕ, _+_, _-_, _^_, _≤_, _<_}
+use Prim.Native.Nat.{ℕ, _-_, _^_, _≤_, _<_}
 use mathlib.Core.Path.{_≡_, refl, sym, ap, _∙_}
 use mathlib.Core.Bool.{true, false}
 use mathlib.Core.List.{List, [], _∷_, _++_, append-assoc}
