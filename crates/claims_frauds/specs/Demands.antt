@@ -21,6 +21,7 @@ use Rattle.access.specs.Finds.{Has}
 use Rattle.access.specs.Steps.{lookupSteps}
 use Rattle.access.specs.declared.Found.{Found}
 use Rattle.access.specs.declared.Found.the-variants.{At, Absent}
+use Rattle.grammar.specs.Tree.{Tree}
 use Rattle.grammar.specs.File.{Index, Tells, File, versionOf, countOf, space, GoodHeader}
 use Rattle.file.specs.Read as reading
 use Rattle.file.specs.declared.Answer.the-variants.{Read, NotSpelled}
@@ -91,7 +92,8 @@ AnswersByTheTable read = (s rs ps ns : List ℕ) → Slices s ps ns → SaysFile
 
 pub record Answers (write : Writer) : Type 0 where
   -- it is done exactly if the paths that are written lie in their store, the node table is proper where TREE is to be written, the limits hold, and there is room
-  pub done-exactly : (rs ps ns nm : List ℕ) (o : Options) (out : List ℕ) → IsDone (write rs ps ns nm o out .answer) ↔ (MayBeWritten rs ps ns nm o × (fileSize idSize rs ps ns nm o ≤ length out))
+  pub done-exactly : (rs ps ns nm : List ℕ) (o : Options) (out : List ℕ)
+      → IsDone (write rs ps ns nm o out .answer) ↔ (MayBeWritten rs ps ns nm o × (fileSize idSize rs ps ns nm o ≤ length out))
   -- and then it answers version and size
   pub done-answers : (rs ps ns nm : List ℕ) (o : Options) (out : List ℕ) (version size : ℕ) → write rs ps ns nm o out .answer ≡ Done version size
       → Version rs version × (size ≡ fileSize idSize rs ps ns nm o)
@@ -115,7 +117,7 @@ pub record WritesAsAsked (write : Writer) : Type 0 where
       → AsAsked rs ps o version (take size (write rs ps ns nm o out .out))
   -- places beyond those used stay as they were
   pub rest-as-it-was : (rs ps ns nm : List ℕ) (o : Options) (out : List ℕ) (version size : ℕ) → write rs ps ns nm o out .answer ≡ Done version size
-      → drop size (write rs ps ns nm o out .out) ≡ drop size out
+      → (drop size (write rs ps ns nm o out .out) ≡ drop size out) × (length (write rs ps ns nm o out .out) ≡ length out)
   -- and so do all where it is not done
   pub refused-as-it-was : (rs ps ns nm : List ℕ) (o : Options) (out : List ℕ) → ¬ IsDone (write rs ps ns nm o out .answer) → write rs ps ns nm o out .out ≡ out
 
@@ -145,8 +147,8 @@ fileIn write c = take (c .size) (written write c .out)
 abbrev pub readAgain : Writer → Reader → Case → reading.Outcome
 readAgain write read c = read (fileIn write c) (c .records′) (c .paths′) (c .nodes′)
 
-abbrev pub treeIn : Case → List ℕ
-treeIn c = treeBytes (treeWritten (c .records) (c .paths) (c .nodes) (c .names))
+abbrev pub treeOf : Case → Tree
+treeOf c = treeWritten (c .records) (c .paths) (c .nodes) (c .names)
 
 -- the stores lent to the reader are large enough for the records and path bytes that are written, and for the nodes where TREE is
 pub record LargeEnough (c : Case) : Type 0 where
@@ -173,9 +175,10 @@ pub record ReadsBack (write : Writer) (read : Reader) : Type 0 where
   pub written-reads-back : (c : Case) → Done? write c → (j i : ℕ) → getElem? (keptOf (c .records)) j ≡ some i
       → SameEntry (c .records) (c .paths) i (readAgain write read c .records) (readAgain write read c .paths) j
   -- the written tree reads back
-  pub tree-reads-back : (c : Case) → Done? write c → treeAsked (c .options) ≡ true → readAgain write read c .nodes ≡ filled (c .nodes′) (treeIn c)
-  -- what is written is spelled by the grammar, and means the table
-  pub written-is-spelled : (c : Case) → Done? write c → (m : Index) × Means (c .records) (c .paths) (c .options) (c .version) m × File idSize (fileIn write c) m
+  pub tree-reads-back : (c : Case) → Done? write c → treeAsked (c .options) ≡ true → readAgain write read c .nodes ≡ filled (c .nodes′) (treeBytes (treeOf c))
+  -- what is written is spelled by the grammar, and means the tables
+  pub written-is-spelled : (c : Case) → Done? write c
+      → (m : Index) × File idSize (fileIn write c) m × Means (c .records) (c .paths) (c .options) (c .version) m × (treeAsked (c .options) ≡ true → m .tree ≡ some (treeOf c))
   -- EOIE that was written is found, with the offset where the extensions start
   pub eoie-is-found : (c : Case) → Done? write c → eoieAsked (c .records) (c .options) ≡ true
       → offsetIn idSize sha1 (fileIn write c) ≡ Offset (fileAt (extensionsPlace idSize (c .records) (c .paths)))

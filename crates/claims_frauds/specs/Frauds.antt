@@ -6,7 +6,7 @@ use mathlib.Core.List.{List, [], _∷_, flatten}
 use mathlib.Core.Logic.{⊎-elim}
 use native.Mathlib.Omega.{arith}
 use lib.Dec.{lit≤, lit<}
-use lib.ListN.{length, take, drop, replicate, length-append, take-append-drop}
+use lib.ListN.{length, take, drop, length-append, take-append-drop}
 use lib.Seq.{take-take}
 use Rattle.laws.specs.Pick.{pick}
 use Rattle.laws.specs.Tests.{lt-or-ge}
@@ -25,7 +25,6 @@ use Rattle.file.specs.Read as reading
 use Rattle.file.specs.declared.Answer.{Answer}
 use Rattle.file.specs.declared.Answer.the-variants.{Read}
 use Rattle.write.specs.File as writing
-use Rattle.write.specs.declared.Options.{Options}
 use Rattle.write.specs.declared.Answer.the-variants.{Done}
 use Rattle.claims_entries.specs.Rendering.{Bytes}
 use Rattle.claims_entries.specs.Fields.{bytes-left}

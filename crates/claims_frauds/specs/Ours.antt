@@ -15,7 +15,6 @@ use Rattle.extension.specs.declared.end_of_index_entry.Told.the-variants.{Offse
 use Rattle.access.specs.Lookup.{lookupAt}
 use Rattle.access.specs.Finds.{absent-then-none, none-then-absent, found-then-has, has-then-found}
 use Rattle.access.specs.Steps.{found-counts-the-steps, absent-counts-the-steps}
-use Rattle.grammar.specs.File.{Tells}
 use Rattle.grammar.specs.Unique as grammar
 use Rattle.file.specs.Read.{readFile}
 use Rattle.file.specs.declared.Answer.the-variants.{Read}
@@ -24,6 +23,8 @@ use Rattle.claims.specs.Reading.{answer-says}
 use Rattle.claims.specs.Claims as claims
 use Rattle.claims_write.specs.Meaning.{PathsEnd}
 use Rattle.claims_write.specs.Spelled.{indexOf}
+use Rattle.claims_write.specs.Spelled as spelled
+use Rattle.claims_write.specs.Trees.{tree-is-meant}
 use Rattle.claims_write.specs.Sizes.{treeAsked}
 use Rattle.claims_write.specs.Lengths.{offset-is, writes-tree-is, has-eoie-is}
 use Rattle.claims_write.specs.Answers as answers
@@ -71,7 +72,12 @@ writer-answers =
     }
 
 pub writes-as-asked : WritesAsAsked writer
-writes-as-asked = record { as-asked = asked.written-as-asked; rest-as-it-was = asked.rest-as-it-was; refused-as-it-was = answers.refused-leaves-the-output }
+writes-as-asked =
+    record {
+      as-asked = asked.written-as-asked;
+      rest-as-it-was = λ rs ps ns nm o out version size e. (asked.rest-as-it-was rs ps ns nm o out version size e, asked.output-as-long rs ps ns nm o out version size e);
+      refused-as-it-was = answers.refused-leaves-the-output;
+    }
 
 module _ (c : Case) (x : Done? writer c) where
   ends : PathsEnd (c .records) (c .paths)
@@ -80,9 +86,8 @@ module _ (c : Case) (x : Done? writer c) where
   roomy : claims_write.Roomy (c .records) (c .paths) (c .nodes) (c .options) (c .records′) (c .paths′) (c .nodes′)
   roomy = record { records = x .room .records; paths = x .room .paths; nodes = λ e. x .room .nodes (sym (writes-tree-is (c .options)) ∙ e) }
 
-  -- the mark of the index that was written
-  marked : Tells (asked.MakesSparse (c .records) (c .paths) (c .options)) (indexOf (c .records) (c .paths) (c .nodes) (c .names) (c .options) .sparse)
-  marked = asked.index-means (c .records) (c .paths) (c .nodes) (c .names) (c .options) (c .out) (c .version) (c .size) (x .done) (x .few) .sparse-tells
+  means : asked.Means (c .records) (c .paths) (c .options) (c .version) (indexOf (c .records) (c .paths) (c .nodes) (c .names) (c .options))
+  means = asked.index-means (c .records) (c .paths) (c .nodes) (c .names) (c .options) (c .out) (c .version) (c .size) (x .done) (x .few)
 
 -- the reader's answer in the words of what is asked for
 answered : (c : Case) {sparse : Bool} {records paths : ℕ}
@@ -93,10 +98,19 @@ answered c {sparse} {records} {paths} = ap (λ (t : Bool). Read (c .version) spa
 pub reads-back : ReadsBack writer reader
 reads-back =
     record {
-      reads-back = λ c x. (indexOf (c .records) (c .paths) (c .nodes) (c .names) (c .options) .sparse, marked c x, claims_write.reads-back (c .records) (c .paths) (c .nodes) (c .names) (c .options) (c .out) (c .version) (c .size) (x .done) (x .few) (ends c x) (c .records′) (c .paths′) (c .nodes′) (x .slices) (roomy c x) ∙ answered c);
+      reads-back = λ c x. (
+        indexOf (c .records) (c .paths) (c .nodes) (c .names) (c .options) .sparse,
+        means c x .sparse-tells,
+        claims_write.reads-back (c .records) (c .paths) (c .nodes) (c .names) (c .options) (c .out) (c .version) (c .size) (x .done) (x .few) (ends c x) (c .records′) (c .paths′) (c .nodes′) (x .slices) (roomy c x) ∙ answered c,
+      );
       written-reads-back = λ c x. claims_write.written-reads-back (c .records) (c .paths) (c .nodes) (c .names) (c .options) (c .out) (c .version) (c .size) (x .done) (x .few) (ends c x) (c .records′) (c .paths′) (c .nodes′) (x .slices) (roomy c x) (x .table);
       tree-reads-back = λ c x e. claims_write.tree-reads-back (c .records) (c .paths) (c .nodes) (c .names) (c .options) (c .out) (c .version) (c .size) (x .done) (x .few) (ends c x) (c .records′) (c .paths′) (c .nodes′) (x .slices) (roomy c x) (writes-tree-is (c .options) ∙ e);
-      written-is-spelled = λ c x. asked.written-means (c .records) (c .paths) (c .nodes) (c .names) (c .options) (c .out) (c .version) (c .size) (x .done) (x .few) (ends c x);
+      written-is-spelled = λ c x. (
+        indexOf (c .records) (c .paths) (c .nodes) (c .names) (c .options),
+        spelled.written-is-spelled (c .records) (c .paths) (c .nodes) (c .names) (c .options) (c .out) (c .version) (c .size) (x .done) (ends c x),
+        means c x,
+        λ e. tree-is-meant (c .records) (c .paths) (c .nodes) (c .names) (c .options) (c .out) (c .version) (c .size) (x .done) (x .few) (writes-tree-is (c .options) ∙ e),
+      );
       eoie-is-found = λ c x e. eoie.eoie-is-found (c .records) (c .paths) (c .nodes) (c .names) (c .options) (c .out) (c .version) (c .size) (x .done) (has-eoie-is (c .records) (c .options) ∙ e) ∙ ap (λ (n : ℕ). Offset (fileAt n)) (offset-is (c .records) (c .paths));
     }
 

@@ -1,8 +1,8 @@
--- WITNESSES against the frauds. Two files that demand 3 speaks of: one entry, the grammar's own example of a path that ends at NUL, and 32 zeros, which the grammar does not spell; and two
--- messages with two digests. Assumes nothing.
+-- WITNESSES against the frauds. Two files that demand 3 speaks of: one entry, the grammar's own example of a path that ends at NUL, and 32 zeros, which the grammar does not spell; tables that
+-- may be written, and in how many bytes; and two messages with two digests. Assumes nothing.
 use Prim.Native.Nat.{ℕ, zero, suc, _≤_, _<_}
 use mathlib.Core.Path.{_≡_, refl, sym, ap, _∙_, subst}
-use mathlib.Core.Bool.{true, false}
+use mathlib.Core.Bool.{true, false, false≢true}
 use mathlib.Core.List.{List, [], _∷_, _++_}
 use mathlib.Core.Option.{none}
 use native.Mathlib.Omega.{arith}
@@ -128,9 +128,6 @@ zeros-unsigned e = let z : _≡_ {A = ℕ} 0 1 = cc in omega arith
 pub zeros-not-spelled : (m : Index) → ¬ File idSize zeros-alone m
 zeros-not-spelled m x = zeros-unsigned (spelled-has-good-header x .signature)
 
-unlike : false ≡ true → ⊥
-unlike e = let z : _≡_ {A = ℕ} 0 1 = cc in omega arith
-
 -- ---- 01's marked table loses nothing by being written, and three records and five path bytes are room enough for it
 
 pub writable : WritableTable table store
@@ -167,7 +164,7 @@ roomy out version size = record { records = lit≤ tt; paths = lit≤ tt; nodes 
 -- it may be written, in 232 bytes
 pub may-be-written : MayBeWritten table store [] [] plain
 unfolding table row store recordOf frontOf restOf fieldAt liesInside pathAt beAt bytesOf keepMode total
-may-be-written = record { inside = λ i x. page-sorted .inside i (x .there); proper = λ e. absurd (unlike e); limits = record { records = lit≤ tt; bytes = lit≤ tt } }
+may-be-written = record { inside = λ i x. page-sorted .inside i (x .there); proper = λ e. absurd (false≢true e); limits = record { records = lit≤ tt; bytes = lit≤ tt } }
 
 pub room-for-it : fileSize idSize table store [] [] plain ≤ length (replicate {A = ℕ} 232 0)
 unfolding table row store recordOf frontOf restOf fieldAt liesInside pathAt beAt bytesOf keepMode total
@@ -180,7 +177,7 @@ with-eoie = record { tree = false; cache = false; eoie = true; sparse = true; un
 
 pub eoie-may-be-written : MayBeWritten table store [] [] with-eoie
 unfolding table row store recordOf frontOf restOf fieldAt liesInside pathAt beAt bytesOf keepMode total
-eoie-may-be-written = record { inside = λ i x. page-sorted .inside i (x .there); proper = λ e. absurd (unlike e); limits = record { records = lit≤ tt; bytes = lit≤ tt } }
+eoie-may-be-written = record { inside = λ i x. page-sorted .inside i (x .there); proper = λ e. absurd (false≢true e); limits = record { records = lit≤ tt; bytes = lit≤ tt } }
 
 pub some-record : 0 < recordsIn table
 unfolding table row recordOf frontOf restOf beAt bytesOf keepMode
@@ -210,7 +207,7 @@ no-record i x = absurd (omega (arith, x .there))
 
 pub hash-may-be-written : MayBeWritten [] [] [] [] with-hash
 unfolding total
-hash-may-be-written = record { inside = no-record; proper = λ e. absurd (unlike e); limits = record { records = lit≤ tt; bytes = lit≤ tt } }
+hash-may-be-written = record { inside = no-record; proper = λ e. absurd (false≢true e); limits = record { records = lit≤ tt; bytes = lit≤ tt } }
 
 pub hash-size : fileSize idSize [] [] [] [] with-hash ≡ 32
 unfolding total
@@ -226,7 +223,7 @@ tree-size = refl
 
 pub sdir-may-be-written : MayBeWritten [] [] [] [] with-sdir
 unfolding total
-sdir-may-be-written = record { inside = no-record; proper = λ e. absurd (unlike e); limits = record { records = lit≤ tt; bytes = lit≤ tt } }
+sdir-may-be-written = record { inside = no-record; proper = λ e. absurd (false≢true e); limits = record { records = lit≤ tt; bytes = lit≤ tt } }
 
 pub sdir-size : fileSize idSize [] [] [] [] with-sdir ≡ 40
 unfolding total
@@ -235,7 +232,7 @@ sdir-size = refl
 -- the last two to a writer that is deaf to them
 pub treeless-may-be-written : MayBeWritten [] [] root [] (record { tree = false; cache = true; eoie = false; sparse = false; unhashed = true })
 unfolding total
-treeless-may-be-written = record { inside = no-record; proper = λ e. absurd (unlike e); limits = record { records = lit≤ tt; bytes = lit≤ tt } }
+treeless-may-be-written = record { inside = no-record; proper = λ e. absurd (false≢true e); limits = record { records = lit≤ tt; bytes = lit≤ tt } }
 
 pub treeless-size : fileSize idSize [] [] root [] (record { tree = false; cache = true; eoie = false; sparse = false; unhashed = true }) ≡ 32
 unfolding total
@@ -243,7 +240,7 @@ treeless-size = refl
 
 pub markless-may-be-written : MayBeWritten [] [] [] [] plain
 unfolding total
-markless-may-be-written = record { inside = no-record; proper = λ e. absurd (unlike e); limits = record { records = lit≤ tt; bytes = lit≤ tt } }
+markless-may-be-written = record { inside = no-record; proper = λ e. absurd (false≢true e); limits = record { records = lit≤ tt; bytes = lit≤ tt } }
 
 pub markless-size : fileSize idSize [] [] [] [] plain ≡ 32
 unfolding total

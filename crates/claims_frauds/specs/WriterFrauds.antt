@@ -1,12 +1,12 @@
 -- FRAUDS OF A WRITER FAIL demand 2: one that refuses all, one that never writes the hash, one that leaves TREE, `sdir` or EOIE out. Each is stated of every such writer, and then of the
 -- plainest by name: ours, which does not hear what is asked for. Assumes nothing.
-use Prim.Native.Nat.{ℕ, _+_, _-_, _^_, _≤_, _<_}
+use Prim.Native.Nat.{ℕ, _-_, _^_, _≤_, _<_}
 use mathlib.Core.Path.{_≡_, refl, sym, ap, _∙_}
-use mathlib.Core.Bool.{true, false}
+use mathlib.Core.Bool.{true, false, true≢false, false≢true}
 use mathlib.Core.List.{List, [], _∷_, _++_, append-assoc}
 use native.Mathlib.Omega.{arith}
 use lib.Dec.{lit<}
-use lib.ListN.{length, take, drop, replicate, length-append, length-replicate}
+use lib.ListN.{length, take, drop, replicate, drop-of-length-le, length-append, length-replicate}
 use lib.Seq.{drop-at}
 use Rattle.laws.specs.Fill.{done}
 use Rattle.format.specs.Format.{idSize}
@@ -33,17 +33,15 @@ use Rattle.claims_frauds.specs.Demands.{Reader, Writer, Lookup, Demand2}
 use Rattle.claims_frauds.specs.Ours.{writer, writer-answers}
 use Rattle.claims_frauds.specs.Witness as witness
 
-unlike : true ≡ false → ⊥
-unlike e = let z : _≡_ {A = ℕ} 0 1 = cc in omega arith
-
 -- a writer that is done with another size than 01's
-sized-otherwise-fails : (write : Writer) (read : Reader) (lookup : Lookup) (rs ps ns nm : List ℕ) (o : Options) (out : List ℕ) (version size : ℕ) → write rs ps ns nm o out .answer ≡ Done version size
-    → ¬ (size ≡ fileSize idSize rs ps ns nm o) → ¬ Demand2 write read lookup
+sized-otherwise-fails : (write : Writer) (read : Reader) (lookup : Lookup) (rs ps ns nm : List ℕ) (o : Options) (out : List ℕ) (version size : ℕ)
+    → write rs ps ns nm o out .answer ≡ Done version size → ¬ (size ≡ fileSize idSize rs ps ns nm o) → ¬ Demand2 write read lookup
 sized-otherwise-fails write read lookup rs ps ns nm o out version size e other demand = other (demand .answers .done-answers rs ps ns nm o out version size e .1)
 
 -- ---- A WRITER THAT REFUSES ALL fails demand 2
 
-pub refuses-to-write-fails : (write : Writer) (read : Reader) (lookup : Lookup) → ((rs ps ns nm : List ℕ) (o : Options) (out : List ℕ) → ¬ IsDone (write rs ps ns nm o out .answer)) → ¬ Demand2 write read lookup
+pub refuses-to-write-fails : (write : Writer) (read : Reader) (lookup : Lookup)
+    → ((rs ps ns nm : List ℕ) (o : Options) (out : List ℕ) → ¬ IsDone (write rs ps ns nm o out .answer)) → ¬ Demand2 write read lookup
 refuses-to-write-fails write read lookup never demand =
     never table paths [] [] witness.plain (replicate 232 0)
     (demand .answers .done-exactly table paths [] [] witness.plain (replicate 232 0) .1 (witness.may-be-written, witness.room-for-it))
@@ -55,7 +53,8 @@ refuses-to-write-with-fails a refusal read lookup = refuses-to-write-fails (λ r
 -- ---- A WRITER THAT NEVER WRITES THE HASH fails demand 2: one whose files all end in zeros
 
 abbrev pub EndsInZeros : Writer → Type 0
-EndsInZeros write = (rs ps ns nm : List ℕ) (o : Options) (out : List ℕ) (version size : ℕ) → write rs ps ns nm o out .answer ≡ Done version size → length ns < 2 ^ 64
+EndsInZeros write =
+    (rs ps ns nm : List ℕ) (o : Options) (out : List ℕ) (version size : ℕ) → write rs ps ns nm o out .answer ≡ Done version size → length ns < 2 ^ 64
     → drop (size - idSize) (take size (write rs ps ns nm o out .out)) ≡ replicate idSize 0
 
 -- 32 bits spell a small number in one way
@@ -83,10 +82,6 @@ version-2 : {version : ℕ} → Version [] version → version ≡ 2
 version-2 (three h e) = absurd (omega arith)
 version-2 (two r) = refl
 
-no-bytes : (l : List ℕ) → length l ≡ 0 → l ≡ []
-no-bytes [] e = refl
-no-bytes (x ∷ l) e = absurd (omega arith)
-
 module _ {version : ℕ} {s : List ℕ} (x : AsAsked [] [] witness.with-hash version s) (v : version ≡ 2) where
   no-extension : x .extensions ≡ []
   no-extension = by (x .tree-part) (x .sparse-part) (x .eoie-part) (x .extensions-say)
@@ -94,15 +89,16 @@ module _ {version : ℕ} {s : List ℕ} (x : AsAsked [] [] witness.with-hash ver
       none : {b : List ℕ} → Extensions b [] → b ≡ []
       none done = refl
 
-      by : {at place : ℕ} {t m e : List Ext} {b : List ℕ} → TreePart witness.with-hash place t → SparsePart witness.with-hash m → EoiePart [] witness.with-hash at (t ++ m) e → Extensions b (t ++ (m ++ e)) → b ≡ []
-      by (tree-asked e y) m k z = absurd (unlike (sym e))
-      by (tree-not-asked e) (sparse-marked f) k z = absurd (unlike (sym f))
-      by (tree-not-asked e) (not-marked f) (eoie-asked a b c) z = absurd (unlike (sym a))
+      by : {at place : ℕ} {t m e : List Ext} {b : List ℕ}
+          → TreePart witness.with-hash place t → SparsePart witness.with-hash m → EoiePart [] witness.with-hash at (t ++ m) e → Extensions b (t ++ (m ++ e)) → b ≡ []
+      by (tree-asked e y) m k z = absurd (false≢true e)
+      by (tree-not-asked e) (sparse-marked f) k z = absurd (false≢true f)
+      by (tree-not-asked e) (not-marked f) (eoie-asked a b c) z = absurd (false≢true a)
       by (tree-not-asked e) (not-marked f) (eoie-not-asked k) z = none z
 
   no-entry : x .entries ≡ []
   unfolding total
-  no-entry = no-bytes (x .entries) (x .entries-fill)
+  no-entry = drop-of-length-le (x .entries) {i = 0} (omega (arith, x .entries-fill))
 
   the-header : x .header ≡ emptyHeader
   unfolding keptFrom
@@ -112,7 +108,7 @@ module _ {version : ℕ} {s : List ℕ} (x : AsAsked [] [] witness.with-hash ver
   the-trailer = by (x .trailer-part) ∙ ap sha1 (λ j. the-header j ++ (no-entry j ++ no-extension j))
     where
       by : {b t : List ℕ} → TrailerPart witness.with-hash b t → t ≡ sha1 b
-      by (zeros-asked e) = absurd (unlike (sym e))
+      by (zeros-asked e) = absurd (false≢true e)
       by (hashed e) = refl
 
   -- so the file is header and hash
@@ -144,7 +140,7 @@ hashless-ends rs ps ns nm o out version size e few =
     by s (x .header) (x .entries) (x .extensions) long (x .joins) (x .trailer-part)
   where
     by : {b t : List ℕ} (s h m k : List ℕ) → length s ≡ size → s ≡ h ++ (m ++ (k ++ t)) → TrailerPart (hashless o) b t → drop (size - idSize) s ≡ replicate idSize 0
-    by s h m k l i (hashed e) = absurd (unlike e)
+    by s h m k l i (hashed e) = absurd (true≢false e)
     by s h m k l i (zeros-asked e) =
         let front : List ℕ = (h ++ m) ++ k in
         let zeros : List ℕ = replicate idSize 0 in
@@ -172,7 +168,8 @@ pub record HasExtensions (s : List ℕ) (es : List Ext) : Type 0 where
   pub trailer-says : Trailer idSize trailer
 
 abbrev pub LeavesOut : List ℕ → Writer → Type 0
-LeavesOut signature write = (rs ps ns nm : List ℕ) (o : Options) (out : List ℕ) (version size : ℕ) → write rs ps ns nm o out .answer ≡ Done version size
+LeavesOut signature write =
+    (rs ps ns nm : List ℕ) (o : Options) (out : List ℕ) (version size : ℕ) → write rs ps ns nm o out .answer ≡ Done version size
     → (es : List Ext) → HasExtensions (take size (write rs ps ns nm o out .out)) es → NoneSigned signature es
 
 -- the extensions of a file that is as asked for
@@ -222,7 +219,7 @@ tree-left-out-fails write read lookup left demand =
   where
     by : {place : ℕ} {t : List Ext} (more : List Ext) → TreePart witness.with-tree place t → NoneSigned TREE (t ++ more) → ⊥
     by more (tree-asked e y) n = not-first n
-    by more (tree-not-asked e) n = unlike e
+    by more (tree-not-asked e) n = true≢false e
 
 pub sdir-left-out-fails : (write : Writer) (read : Reader) (lookup : Lookup) → LeavesOut sdir write → ¬ Demand2 write read lookup
 sdir-left-out-fails write read lookup left demand =
@@ -235,7 +232,7 @@ sdir-left-out-fails write read lookup left demand =
   where
     by : {m : List Ext} (more : List Ext) → SparsePart witness.with-sdir m → NoneSigned sdir (m ++ more) → ⊥
     by more (sparse-marked e) n = not-first n
-    by more (not-marked e) n = unlike e
+    by more (not-marked e) n = true≢false e
 
 pub eoie-left-out-fails : (write : Writer) (read : Reader) (lookup : Lookup) → LeavesOut EOIE write → ¬ Demand2 write read lookup
 eoie-left-out-fails write read lookup left demand =
@@ -244,15 +241,15 @@ eoie-left-out-fails write read lookup left demand =
     let enough : fileSize idSize table paths [] [] o ≤ 272 = omega (arith, witness.eoie-size) in
     let (version, size, e) = demand .answers .done-exactly table paths [] [] o out .1 (witness.eoie-may-be-written, enough) in
     let x = demand .writes .as-asked table paths [] [] o out version size e (lit< tt) in
-    by (x .tree) (x .sparse-part) (x .eoie-part)
-    (none-behind EOIE (x .sparse) (x .eoie) (none-behind EOIE (x .tree) (x .sparse ++ x .eoie) (left table paths [] [] o out version size e (extensionsIn x) (has-extensions x (writable-ends table paths witness.writable)))))
+    let n = left table paths [] [] o out version size e (extensionsIn x) (has-extensions x (writable-ends table paths witness.writable)) in
+    by (x .tree) (x .sparse-part) (x .eoie-part) (none-behind EOIE (x .sparse) (x .eoie) (none-behind EOIE (x .tree) (x .sparse ++ x .eoie) n))
   where
     by : {at : ℕ} {m l : List Ext} (t : List Ext) → SparsePart witness.with-eoie m → EoiePart table witness.with-eoie at (t ++ m) l → NoneSigned EOIE l → ⊥
     by t (sparse-marked e) (eoie-asked a b c) n = not-first n
     by t (sparse-marked e) (eoie-not-asked k) n = k refl witness.some-record (omega (arith, length-append t (ext sdir [] ∷ [])))
-    by t (not-marked e) k n = unlike e
+    by t (not-marked e) k n = true≢false e
 
--- ours, which takes every index for one without a tree, or without the mark
+-- ours, which takes every index for one without a tree, or for one that is not sparse
 abbrev pub treeless : Options → Options
 treeless o = record { tree = false; cache = o .cache; eoie = o .eoie; sparse = o .sparse; unhashed = o .unhashed }
 
@@ -266,7 +263,8 @@ treeless-fails read lookup =
     let enough : fileSize idSize [] [] witness.root [] o ≤ 65 = omega (arith, witness.treeless-size) in
     let (version, size, e) = writer-answers .done-exactly [] [] witness.root [] o out .1 (witness.treeless-may-be-written, enough) in
     let n = writer-answers .done-answers [] [] witness.root [] o out version size e .1 in
-    sized-otherwise-fails (λ rs ps ns nm o out. writer rs ps ns nm (treeless o) out) read lookup [] [] witness.root [] witness.with-tree out version size e (λ q. omega (arith, witness.tree-size, witness.treeless-size))
+    sized-otherwise-fails (λ rs ps ns nm o out. writer rs ps ns nm (treeless o) out) read lookup [] [] witness.root [] witness.with-tree out version size e
+    (λ q. omega (arith, witness.tree-size, witness.treeless-size))
 
 pub markless-fails : (read : Reader) (lookup : Lookup) → ¬ Demand2 (λ rs ps ns nm o out. writer rs ps ns nm (markless o) out) read lookup
 markless-fails read lookup =
@@ -275,4 +273,5 @@ markless-fails read lookup =
     let enough : fileSize idSize [] [] [] [] o ≤ 40 = omega (arith, witness.markless-size) in
     let (version, size, e) = writer-answers .done-exactly [] [] [] [] o out .1 (witness.markless-may-be-written, enough) in
     let n = writer-answers .done-answers [] [] [] [] o out version size e .1 in
-    sized-otherwise-fails (λ rs ps ns nm o out. writer rs ps ns nm (markless o) out) read lookup [] [] [] [] witness.with-sdir out version size e (λ q. omega (arith, witness.sdir-size, witness.markless-size))
+    sized-otherwise-fails (λ rs ps ns nm o out. writer rs ps ns nm (markless o) out) read lookup [] [] [] [] witness.with-sdir out version size e
+    (λ q. omega (arith, witness.sdir-size, witness.markless-size))

@@ -3,7 +3,7 @@
 -- tables and what is asked for; `Sizes` says how long a file is. Assumes nothing.
 use Prim.Native.Nat.{ℕ, zero, suc, _+_, _-_, _^_, _≤_, _<_}
 use mathlib.Core.Path.{_≡_, refl, sym, ap, _∙_, subst}
-use mathlib.Core.Bool.{Bool, true, false}
+use mathlib.Core.Bool.{Bool, true, false, true≢false}
 use mathlib.Core.List.{List, _++_}
 use mathlib.Core.Logic.{_⊎_, inl, inr, ⊎-elim, _↔_}
 use native.Mathlib.Omega.{arith}
@@ -80,12 +80,10 @@ pub data Says (rs ps ns nm : List ℕ) (o : Options) (out : List ℕ) : Answer �
   says-not-proper : PathsInside rs ps → treeAsked o ≡ true → ¬ Proper depthLimit ns nm → Says rs ps ns nm o out NotProper
   says-too-large : PathsInside rs ps → ProperIfAsked ns nm o → OverTheLimits rs ps ns nm o → Says rs ps ns nm o out TooLarge
   says-short : MayBeWritten rs ps ns nm o → length out < fileSize idSize rs ps ns nm o → Says rs ps ns nm o out (ShortOutput (fileSize idSize rs ps ns nm o))
-  says-done : {version : ℕ} → MayBeWritten rs ps ns nm o → fileSize idSize rs ps ns nm o ≤ length out → Version rs version → Says rs ps ns nm o out (Done version (fileSize idSize rs ps ns nm o))
+  says-done : {version : ℕ} → MayBeWritten rs ps ns nm o → fileSize idSize rs ps ns nm o ≤ length out → Version rs version
+      → Says rs ps ns nm o out (Done version (fileSize idSize rs ps ns nm o))
 
 -- ---- the first record outside
-
-unlike : true ≡ false → ⊥
-unlike e = let z : _≡_ {A = ℕ} 0 1 = cc in omega arith
 
 -- what the search for it finds
 data FirstIs (rs ps : List ℕ) (k from : ℕ) : First → Type 0 where
@@ -103,9 +101,9 @@ module _ (rs ps : List ℕ) where
   fault-is i h b = by (bit removed (flagsAt rs i)) refl (liesInside rs ps i) refl
     where
       by : (g : Bool) → bit removed (flagsAt rs i) ≡ g → (l : Bool) → liesInside rs ps i ≡ l → FaultIs rs ps i (pick g false (pick l false true))
-      by true eg l el = faultless (λ s. absurd (unlike (sym eg ∙ s .unmarked)))
+      by true eg l el = faultless (λ s. absurd (true≢false (sym eg ∙ s .unmarked)))
       by false eg true el = faultless (λ s. yes-lies rs ps i h el)
-      by false eg false el = faulty (record { there = h; unmarked = eg }) (λ l. unlike (sym (lies-yes rs ps i h l) ∙ el))
+      by false eg false el = faulty (record { there = h; unmarked = eg }) (λ l. true≢false (sym (lies-yes rs ps i h l) ∙ el))
 
   first-is : (k from : ℕ) → from + k ≤ recordsIn rs → ((j : ℕ) → j < from → Stays rs j → Lies rs ps j) → FirstIs rs ps k from (firstFault rs ps k from)
   unfolding firstFault
@@ -160,8 +158,8 @@ module _ (rs : List ℕ) where
   -- there is one
   pub one-version : {v w : ℕ} → Version rs v → Version rs w → v ≡ w
   one-version (three h e) (three i f) = refl
-  one-version (three h e) (two r) = absurd (unlike (sym e ∙ r _ h))
-  one-version (two r) (three h e) = absurd (unlike (sym e ∙ r _ h))
+  one-version (three h e) (two r) = absurd (true≢false (sym e ∙ r _ h))
+  one-version (two r) (three h e) = absurd (true≢false (sym e ∙ r _ h))
   one-version (two r) (two s) = refl
 
 -- ---- the table of nodes
@@ -176,9 +174,9 @@ module _ (ns nm : List ℕ) (o : Options) where
   fits? = subst (λ (w : Bool). Fits (pick w (isProper depthLimit ns nm) true)) (sym (writes-tree-is o)) (by (treeAsked o) refl (isProper depthLimit ns nm) refl)
     where
       by : (w : Bool) → treeAsked o ≡ w → (t : Bool) → isProper depthLimit ns nm ≡ t → Fits (pick w t true)
-      by false e t f = fits (λ a. absurd (unlike (sym a ∙ e)))
+      by false e t f = fits (λ a. absurd (true≢false (sym a ∙ e)))
       by true e true f = fits (λ a. proper-exactly depthLimit ns nm .0 f)
-      by true e false f = fits-not e (λ p. unlike (sym (proper-exactly depthLimit ns nm .1 p) ∙ f))
+      by true e false f = fits-not e (λ p. true≢false (sym (proper-exactly depthLimit ns nm .1 p) ∙ f))
 
 -- ---- the answer
 
@@ -199,7 +197,11 @@ module _ (rs ps ns nm : List ℕ) (o : Options) (out : List ℕ) where
   unfolding writeAll writeFile
   answer-says = by (search-is rs ps) (fits? ns nm o) (less? most (recordsIn rs)) (less? most (length body)) (less? (length out) (length whole))
     where
-      by : {f : First} {t a b c : Bool} → FirstIs rs ps (recordsIn rs) 0 f → Fits ns nm o t → Less most (recordsIn rs) a → Less most (length body) b → Less (length out) (length whole) c
+      may : PathsInside rs ps → ProperIfAsked ns nm o → recordsIn rs ≤ most → length body ≤ most → MayBeWritten rs ps ns nm o
+      may x p q r = record { inside = x; proper = p; limits = record { records = omega arith; bytes = omega (arith, body-length rs ps ns nm o p) } }
+
+      by : {f : First} {t a b c : Bool} → FirstIs rs ps (recordsIn rs) 0 f → Fits ns nm o t
+          → Less most (recordsIn rs) a → Less most (length body) b → Less (length out) (length whole) c
           → Says rs ps ns nm o out ((onFirst f (λ i. outcome (PathOutside i) out) (pick t (last a b c) (outcome NotProper out))) .answer)
       by (is-found x) p q r s = says-outside x
       by (is-nowhere x) (fits-not w p) q r s = says-not-proper (all-inside rs ps x) w p
@@ -207,14 +209,16 @@ module _ (rs ps ns nm : List ℕ) (o : Options) (out : List ℕ) where
       by (is-nowhere x) (fits p) (not-less q) (less r) s = says-too-large (all-inside rs ps x) p (inr (omega (arith, body-length rs ps ns nm o p)))
       by (is-nowhere x) (fits p) (not-less q) (not-less r) (less s) =
           subst (λ (n : ℕ). Says rs ps ns nm o out (ShortOutput n)) (sym (file-length rs ps ns nm o p))
-          (says-short (record { inside = all-inside rs ps x; proper = p; limits = record { records = omega arith; bytes = omega (arith, body-length rs ps ns nm o p) } }) (omega (arith, file-length rs ps ns nm o p)))
+          (says-short (may (all-inside rs ps x) p q r) (omega (arith, file-length rs ps ns nm o p)))
       by (is-nowhere x) (fits p) (not-less q) (not-less r) (not-less s) =
           subst (λ (n : ℕ). Says rs ps ns nm o out (Done (versionOf rs) n)) (sym (file-length rs ps ns nm o p))
-          (says-done (record { inside = all-inside rs ps x; proper = p; limits = record { records = omega arith; bytes = omega (arith, body-length rs ps ns nm o p) } }) (omega (arith, file-length rs ps ns nm o p)) (version-says rs))
+          (says-done (may (all-inside rs ps x) p q r) (omega (arith, file-length rs ps ns nm o p)) (version-says rs))
 
   -- no two answers are said
   first-once : {i j : ℕ} → FirstOutside rs ps i → FirstOutside rs ps j → i ≡ j
-  first-once {i} {j} x y = ⊎-elim (λ l. absurd (x .outside (y .first i l (x .stays)))) (λ l. ⊎-elim (λ k. absurd (y .outside (x .first j k (y .stays)))) (λ k. omega arith) (lt-or-ge j i)) (lt-or-ge i j)
+  first-once {i} {j} x y =
+      ⊎-elim (λ l. absurd (x .outside (y .first i l (x .stays))))
+      (λ l. ⊎-elim (λ k. absurd (y .outside (x .first j k (y .stays)))) (λ k. omega arith) (lt-or-ge j i)) (lt-or-ge i j)
 
   not-both : {i : ℕ} → FirstOutside rs ps i → PathsInside rs ps → ⊥
   not-both {i} x q = x .outside (q i (x .stays))
@@ -306,7 +310,8 @@ module _ (rs ps ns nm : List ℕ) (o : Options) (out : List ℕ) where
   refused-leaves-the-output = by (firstFault rs ps (recordsIn rs) 0) (treeFits depthLimit ns nm (writesTree o)) (ltb most (recordsIn rs)) (ltb most (length body)) (ltb (length out) (length whole))
     where
       by : (f : First) (t a b c : Bool)
-          → ¬ IsDone ((onFirst f (λ i. outcome (PathOutside i) out) (pick t (last a b c) (outcome NotProper out))) .answer) → (onFirst f (λ i. outcome (PathOutside i) out) (pick t (last a b c) (outcome NotProper out))) .out ≡ out
+          → ¬ IsDone ((onFirst f (λ i. outcome (PathOutside i) out) (pick t (last a b c) (outcome NotProper out))) .answer)
+          → (onFirst f (λ i. outcome (PathOutside i) out) (pick t (last a b c) (outcome NotProper out))) .out ≡ out
       by (found i) t a b c n = refl
       by nowhere false a b c n = refl
       by nowhere true true b c n = refl

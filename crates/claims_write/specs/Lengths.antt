@@ -32,7 +32,7 @@ use Rattle.claims_write.specs.Sizes.{treeAsked, eoieAsked, fixedSize, en
 
 -- ---- entries
 
-fixed-is : (id flags : ℕ) → fixedOf id flags ≡ fixedSize id flags
+pub fixed-is : (id flags : ℕ) → fixedOf id flags ≡ fixedSize id flags
 unfolding fixedOf
 fixed-is id flags = by (bit extended flags)
   where

@@ -1,5 +1,6 @@
 -- The modules of claims_write. To be read: `Meaning`, and the theorems of `Spelled` (what is written is spelled), `Trees` (and so is the tree), `Eoie` (EOIE is found) and `Claims` (demand 2,
 -- what is written reads back), and `Stored` (what was read in order is in file order). `Entries`, `Extensions`, `Tree`, `Count`, `Kept` and `Reading` lead there.
+-- Of the writer alone: `Sizes` (how long a file is), `Answers` (what it answers, each exactly when) and `Asked` (what must be there); `Lengths` leads there.
 pub mod Meaning
 pub mod Entries
 pub mod Extensions

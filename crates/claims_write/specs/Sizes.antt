@@ -1,6 +1,6 @@
 -- HOW LONG A WRITTEN FILE IS (01, "Writing", "How an entry is spelled" and "Extensions"), in plain arithmetic over the tables and what is asked for, and over the length of an id. No byte
 -- that is written is named here; `Lengths` proves that the writer writes so many. Assumes nothing.
-use Prim.Native.Nat.{ℕ, zero, suc, _+_, _*_, _/_, _%_, _≤_}
+use Prim.Native.Nat.{ℕ, zero, suc, _+_, _-_, _*_, _/_, _%_, _≤_}
 use mathlib.Core.Path.{_≡_}
 use mathlib.Core.Bool.{Bool, _&&_, _||_}
 use mathlib.Core.List.{List}
@@ -33,6 +33,10 @@ eoieAsked rs o = o .eoie && (ltb 0 (recordsIn rs) && (treeAsked o || o .sparse))
 abbrev pub fixedSize : ℕ → ℕ → ℕ
 fixedSize id flags = 10 * 4 + id + 2 + pick (bit extended flags) 2 0
 
+-- with the path
+abbrev pub unpaddedSize : ℕ → List ℕ → List ℕ → ℕ → ℕ
+unpaddedSize id rs ps i = fixedSize id (flagsAt rs i) + length (pathAt rs ps i)
+
 -- with "1 to 8 padding bytes …, so that the entry is a multiple of 8 long"
 abbrev pub padded : ℕ → ℕ
 padded size = (size / 8 + 1) * 8
@@ -41,7 +45,10 @@ pub padded-is : (size : ℕ) → (size + 1 ≤ padded size) × (padded size ≤ 
 padded-is size = (omega arith, omega arith, omega arith)
 
 abbrev pub entrySize : ℕ → List ℕ → List ℕ → ℕ → ℕ
-entrySize id rs ps i = padded (fixedSize id (flagsAt rs i) + length (pathAt rs ps i))
+entrySize id rs ps i = padded (unpaddedSize id rs ps i)
+
+abbrev pub paddingSize : ℕ → List ℕ → List ℕ → ℕ → ℕ
+paddingSize id rs ps i = entrySize id rs ps i - unpaddedSize id rs ps i
 
 -- "REMOVE records are skipped"
 abbrev pub writtenSize : ℕ → List ℕ → List ℕ → ℕ → ℕ
