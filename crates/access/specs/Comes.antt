@@ -3,7 +3,7 @@
 use mathlib.Core.Path.{_≡_, refl, sym, ap, _∙_, subst}
 use mathlib.Core.Bool.{Bool, true, false}
 use mathlib.Core.List.{List}
-use mathlib.Core.Logic.{_⊎_, ⊎-elim, _↔_}
+use mathlib.Core.Logic.{⊎-elim, _↔_}
 use Prim.Native.Nat.{ℕ, zero, suc, _+_, _-_, _/_, _≤_, _<_}
 use native.Mathlib.Omega.{arith}
 use Rattle.laws.specs.Pick.{pick}
@@ -18,7 +18,6 @@ use Rattle.access.specs.declared.order.Order.{Order}
 use Rattle.access.specs.declared.order.Order.the-variants.{Less, Equal, Greater}
 use Rattle.access.specs.declared.Probe.{Probe}
 use Rattle.access.specs.declared.Probe.the-variants.{Is, Outside}
-use Rattle.access.specs.declared.Found.{Found}
 use Rattle.access.specs.declared.Found.the-variants.{At, Absent, NoStage, PathOutside}
 
 -- ---- THE HALVING RULE

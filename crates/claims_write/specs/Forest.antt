@@ -7,21 +7,21 @@ use mathlib.Core.List.{List, [], _∷_, _++_}
 use mathlib.Core.Logic.{_⊎_, inl, inr, ⊎-elim}
 use native.Mathlib.Omega.{arith}
 use lib.Dec.{ltb, eqb}
-use lib.ListN.{length, getD, take, drop, replicate, length-append, length-replicate, List·getD-append}
+use lib.ListN.{length, getD, take, drop, replicate, length-append, List·getD-append}
 use lib.Seq.{take-at, take-take, take-nil, getD-append-add}
 use borrow.Author.Tests.{lt-ltb, eq-eqb, ne-eqb}
 use Rattle.laws.specs.Pick.{pick}
 use Rattle.laws.specs.Lists.{length-part, take-replicate}
 use Rattle.laws.specs.Order.{Before}
-use Rattle.laws.specs.Tests.{lt-or-ge, tri, Same, same, differs, same?}
+use Rattle.laws.specs.Tests.{lt-or-ge, Same, same, differs, same?}
 use Rattle.node.specs.Head.{minusOne}
-use Rattle.node.specs.Store.{idRoom, nodesIn, nameStartAt, nameEndAt, countAt, subtreesAt, parentAt, idAt, nameAt}
+use Rattle.node.specs.Store.{idRoom, nodesIn, countAt, subtreesAt, parentAt, idAt, nameAt}
 use Rattle.tree_write.specs.Order.{before, before-names}
 use Rattle.tree_write.specs.Tree.{idBytes, headBytes, each, nodeBytes}
 use Rattle.tree_write.specs.Kids.{Mem, here, there, Rising, done, more}
 use Rattle.proper.specs.Table.{Proper}
-use Rattle.grammar.specs.Number.{Count, covers, invalid}
-use Rattle.grammar.specs.Tree.{Tree, Subtrees, nodes}
+use Rattle.grammar.specs.Number.{covers, invalid}
+use Rattle.grammar.specs.Tree.{Subtrees, nodes}
 use Rattle.claims_tree.specs.Rendering.{countWord, howMany, idBytes as idFilled}
 use Rattle.claims_tree.specs.Shown.{ShowsNode, ShowsTree, ShowsSubtrees}
 use Rattle.claims_write.specs.SameTree.{SameNode}

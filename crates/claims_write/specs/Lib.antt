@@ -19,3 +19,4 @@ pub mod Forest
 pub mod TreeBack
 pub mod Whole
 pub mod Example
+pub mod Needed

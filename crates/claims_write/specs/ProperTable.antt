@@ -8,11 +8,10 @@ use mathlib.Core.Logic.{_⊎_, ⊎-elim, _↔_}
 use native.Mathlib.Omega.{arith}
 use lib.Dec.{leb, eqb}
 use lib.ListN.{length}
-use borrow.Author.Tests.{eq-eqb, ne-eqb, le-leb, leb-true}
+use borrow.Author.Tests.{ne-eqb, le-leb, leb-true}
 use Rattle.laws.specs.Pick.{pick}
 use Rattle.laws.specs.Tests.{tri, Same, same, differs, same?}
 use Rattle.slices.specs.Bytes.{nulIn, nulAt}
-use Rattle.slices.specs.declared.Ends.the-variants.{With}
 use Rattle.node.specs.Head.{minusOne}
 use Rattle.node.specs.Store.{nodesIn, nameStartAt, nameEndAt, countAt, subtreesAt, parentAt, isPart, nameInside, nameAt}
 use Rattle.siblings.specs.Siblings.{isChild}
@@ -23,7 +22,7 @@ use Rattle.proper.specs.Table.{Proper, proper-exactly}
 use Rattle.tree_write.specs.Kids.{Mem, here, there, not-mem, Rising, done, more}
 use Rattle.grammar.specs.Entry.{NoNul}
 use Rattle.grammar.specs.Entry.NoNul.{empty, byte}
-use Rattle.grammar.specs.Tree.{Other, alone, differs as other-differs, Distinct, no-names, one-more}
+use Rattle.grammar.specs.Tree.{Other, differs as other-differs, Distinct, one-more}
 use Rattle.claims_write.specs.Tree.{no-nul, distinct-names, Level, root, below, level-within}
 use Rattle.claims_write.specs.Count.{level-found}
 use Rattle.claims_write.specs.Stored.{first-or-later}

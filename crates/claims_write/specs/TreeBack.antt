@@ -1,6 +1,6 @@
 -- THE TREE READS BACK: where a node table is given and TREE asked for, and the writer is done, the reader's node store holds the table's tree (`SameTree`): each node once, with its parent, count,
 -- subtree count, id and name, siblings in byte order of name. Assumes that the file is bytes and that no slice has 2^64 bytes or more, premises with names.
-use Prim.Native.Nat.{ℕ, zero, suc, _+_, _-_, _*_, _/_, _^_, _≤_, _<_}
+use Prim.Native.Nat.{ℕ, zero, suc, _+_, _*_, _^_, _≤_, _<_}
 use mathlib.Core.Path.{_≡_, refl, sym, ap, _∙_, subst}
 use mathlib.Core.Bool.{Bool, true, false}
 use mathlib.Core.List.{List, [], _∷_, _++_, append-nil}
@@ -11,8 +11,7 @@ use lib.ListN.{length, getD, take, drop, length-append, length-drop}
 use lib.Seq.{take-append-le, drop-append-le}
 use borrow.Author.Tests.{lt-ltb, eq-eqb}
 use Rattle.laws.specs.Pick.{pick}
-use Rattle.laws.specs.Order.{Before}
-use Rattle.laws.specs.Tests.{lt-or-ge, tri, Same, same, differs, same?}
+use Rattle.laws.specs.Tests.{tri, Same, same, differs, same?}
 use Rattle.format.specs.Format.{idSize, depthLimit}
 use Rattle.wire.specs.BigEndian.{be-left}
 use Rattle.sha1.specs.Sha1.{sha1}
@@ -37,7 +36,7 @@ use Rattle.claims_write.specs.Trees.{treeWritten, proper, written-tree-i
 use Rattle.claims_write.specs.Claims.{bytes, reading, Roomy, tree-reads-back}
 use Rattle.claims_write.specs.Count.{walk, met-once, walk-inside, walk-length}
 use Rattle.claims_write.specs.SameTree.{SameNode, SameTree}
-use Rattle.claims_write.specs.Forest.{Forest, forest-nodes, forest-parents, forest-parent, forest-by-name, forest-in-order, Planted, planted}
+use Rattle.claims_write.specs.Forest.{forest-nodes, forest-parents, forest-by-name, forest-in-order, Planted, planted}
 
 -- ---- a list that has each number once
 

@@ -1,6 +1,6 @@
 -- THE WHOLE TABLE (01, Writing: "REMOVE records are skipped"): where no record is marked REMOVE, the number of records that the reader answers for what was written is the table's own.
 -- Assumes that the file is bytes and that no slice has 2^64 bytes or more, premises with names.
-use Prim.Native.Nat.{ℕ, _+_, _*_, _^_, _≤_, _<_}
+use Prim.Native.Nat.{ℕ, _^_, _<_}
 use mathlib.Core.Path.{_≡_, ap, _∙_}
 use mathlib.Core.List.{List}
 use native.Mathlib.Omega.{arith}
