@@ -1,5 +1,5 @@
--- EACH PREMISE OF DEMAND 2 IS NEEDED (01, "How an entry is spelled" and "Writing"): four tables that each have three of them, are written, are read again, and read back as something else; so
--- by demand 2 they lack the fourth. What is written and read is computed. Assumes nothing.
+-- EACH PREMISE OF DEMAND 2 IS NEEDED (01, "How an entry is spelled" and "Writing"): four tables that each have three of them, are written, are read again,
+-- and read back as something else; so by demand 2 they lack the fourth. What is written and read is computed. Assumes nothing.
 use Prim.Native.Nat.{ℕ, zero, suc, _<_}
 use mathlib.Core.Path.{_≡_, refl, ap}
 use mathlib.Core.Bool.{true, false}
@@ -43,7 +43,9 @@ writing rs ps size = writeAll idSize sha1 depthLimit rs ps [] [] plain (replicat
 -- and what the reader makes of them, with stores that are large enough
 unfoldable pub reading : List ℕ → List ℕ → ℕ → ReadOutcome
 unfolding writing readFile headerAt onVersion goodTrailer sameBytes entriesInto readEntries run least pathOf marked putRecord recordOf frontOf restOf keepMode dirAt measure.measureAt measure.headAt measure.headWith measure.extendedAt extendedToMemory measure.paddedAt measure.paddedTo measure.wholeOf nulAt nulIn extensionsInto walkAt runAt runBy stepAt judged sparseIn lastWhere
-reading rs ps size = readFile idSize depthLimit (take size (writeAll idSize sha1 depthLimit rs ps [] [] plain (replicate size 9) .out)) (replicate (length rs) 9) (replicate (length ps) 9) []
+reading rs ps size =
+    readFile idSize depthLimit (take size (writeAll idSize sha1 depthLimit rs ps [] [] plain (replicate size 9) .out))
+    (replicate (length rs) 9) (replicate (length ps) 9) []
 
 -- ---- THE CLAIM'S WORDS
 
@@ -64,7 +66,8 @@ pub record ReadsBackOtherwise (rs ps : List ℕ) (size records used : ℕ) : Typ
 
 -- a record of this mode and these flags, each in four bytes, whose path is given by its start and end, each in two bytes
 abbrev row : List ℕ → List ℕ → List ℕ → List ℕ → List ℕ
-row mode flags start end = replicate 24 0 ++ mode ++ replicate 12 0 ++ replicate 20 7 ++ replicate 12 0 ++ flags ++ (replicate 6 0 ++ start) ++ (replicate 6 0 ++ end) ++ replicate 4 0
+row mode flags start end =
+    replicate 24 0 ++ mode ++ replicate 12 0 ++ replicate 20 7 ++ replicate 12 0 ++ flags ++ (replicate 6 0 ++ start) ++ (replicate 6 0 ++ end) ++ replicate 4 0
 
 -- octal 100644, and no flag
 abbrev regular : List ℕ

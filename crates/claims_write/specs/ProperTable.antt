@@ -1,5 +1,5 @@
--- A PROPER NODE TABLE IN 01'S WORDS (01, Writing): over the table's accessors, the grammar's names without NUL and distinct names, and the levels of nodes; and that the writer's
--- test passes exactly these. Over the depth. Assumes nothing.
+-- A PROPER NODE TABLE IN 01'S WORDS (01, Writing): over the table's accessors, the grammar's names without NUL and distinct names, and the levels of nodes;
+-- and that the writer's test passes exactly these. Over the depth. Assumes nothing.
 use Prim.Native.Nat.{ℕ, zero, suc, _+_, _-_, _^_, _≤_, _<_}
 use mathlib.Core.Path.{_≡_, refl, sym, ap, _∙_, subst}
 use mathlib.Core.Bool.{Bool, true, false}
@@ -78,7 +78,8 @@ lies-inside : (ns nm : List ℕ) (i : ℕ) → (nameInside nm ns i ≡ true) ↔
 unfolding nameInside isPart
 lies-inside ns nm i = (λ e. to (leb (nameStartAt ns i) (nameEndAt ns i)) refl e, λ (a, b). rw (le-leb (nameStartAt ns i) (nameEndAt ns i) a) (le-leb (nameEndAt ns i) (length nm) b))
   where
-    to : (t : Bool) → leb (nameStartAt ns i) (nameEndAt ns i) ≡ t → pick t (leb (nameEndAt ns i) (length nm)) false ≡ true → (nameStartAt ns i ≤ nameEndAt ns i) × (nameEndAt ns i ≤ length nm)
+    to : (t : Bool) → leb (nameStartAt ns i) (nameEndAt ns i) ≡ t → pick t (leb (nameEndAt ns i) (length nm)) false ≡ true
+        → (nameStartAt ns i ≤ nameEndAt ns i) × (nameEndAt ns i ≤ length nm)
     to true e q = (leb-true (nameStartAt ns i) (nameEndAt ns i) e, leb-true (nameEndAt ns i) (length nm) q)
     to false e q = absurd (false-true q)
 
@@ -138,7 +139,8 @@ module _ (ns : List ℕ) (p : ℕ) where
   children-rise zero j = done
   children-rise (suc k) j = by (eqb (parentAt ns j) p) (children-rise k (j + 1))
     where
-      by : (t : Bool) → Rising (λ x y. x < y) (childrenFrom ns p k (j + 1)) → Rising (λ x y. x < y) (pick t (j ∷ childrenFrom ns p k (j + 1)) (childrenFrom ns p k (j + 1)))
+      by : (t : Bool) → Rising (λ x y. x < y) (childrenFrom ns p k (j + 1))
+          → Rising (λ x y. x < y) (pick t (j ∷ childrenFrom ns p k (j + 1)) (childrenFrom ns p k (j + 1)))
       by true r = more {x = j} (λ y m. let (a, b, c) = children-are k (j + 1) y m in omega arith) r
       by false r = r
 

@@ -1,5 +1,5 @@
--- WHEN A NODE STORE HOLDS THE TREE OF A NODE TABLE (01, Extensions: "Nodes go to a lent store in file order", and Writing: "siblings in byte order of name"), over the accessors of the two alone:
--- no tree, no byte of a file and no walk of the writer is named here. n is the length of an id. Assumes nothing.
+-- WHEN A NODE STORE HOLDS THE TREE OF A NODE TABLE (01, Extensions: "Nodes go to a lent store in file order", and Writing: "siblings in byte order of name"),
+-- over the accessors of the two alone: no tree, no byte of a file and no walk of the writer is named here. n is the length of an id. Assumes nothing.
 use Prim.Native.Nat.{ℕ, _+_, _≤_, _<_}
 use mathlib.Core.Path.{_≡_}
 use mathlib.Core.List.{List}
@@ -8,7 +8,8 @@ use Rattle.laws.specs.Order.{Before}
 use Rattle.node.specs.Head.{minusOne}
 use Rattle.node.specs.Store.{nodesIn, nameStartAt, nameEndAt, countAt, subtreesAt, parentAt, idAt, nameAt}
 
--- node j of the store ms, whose names stand in s, shows node i of the table ns, whose names stand in nm: name, count, subtree count, and the id, or zeros where the count is -1
+-- node j of the store ms, whose names stand in s, shows node i of the table ns, whose names stand in nm: name, count, subtree count, and the id, or zeros
+-- where the count is -1
 pub record SameNode (n : ℕ) (ns nm : List ℕ) (i : ℕ) (s ms : List ℕ) (j : ℕ) : Type 0 where
   pub name : nameAt s ms j ≡ nameAt nm ns i
   pub spans : nameEndAt ms j ≡ nameStartAt ms j + length (nameAt nm ns i)
