@@ -1,9 +1,10 @@
--- Refusal 12 of a lookup exactly (01, Order and lookup, and "Lookup: 11, then 12 at a record when compared"): which records the halving rule comes to, said without the code's walk, and
--- that 12 is answered exactly at the first of them whose path lies outside its store. Over any table, sorted or not. Assumes nothing.
+-- Refusal 12 of a lookup exactly (01, Order and lookup, and "Lookup: 11, then 12 at a record when compared"): which records the halving rule comes to, said
+-- without the code's walk, and that 12 is answered exactly at the first of them whose path lies outside its store. Over any table, sorted or not. Assumes
+-- nothing.
 use mathlib.Core.Path.{_≡_, refl, sym, ap, _∙_, subst}
 use mathlib.Core.Bool.{Bool, true, false}
 use mathlib.Core.List.{List}
-use mathlib.Core.Logic.{_⊎_, ⊎-elim, _↔_}
+use mathlib.Core.Logic.{⊎-elim, _↔_}
 use Prim.Native.Nat.{ℕ, zero, suc, _+_, _-_, _/_, _≤_, _<_}
 use native.Mathlib.Omega.{arith}
 use Rattle.laws.specs.Pick.{pick}
@@ -18,7 +19,6 @@ use Rattle.access.specs.declared.order.Order.{Order}
 use Rattle.access.specs.declared.order.Order.the-variants.{Less, Equal, Greater}
 use Rattle.access.specs.declared.Probe.{Probe}
 use Rattle.access.specs.declared.Probe.the-variants.{Is, Outside}
-use Rattle.access.specs.declared.Found.{Found}
 use Rattle.access.specs.declared.Found.the-variants.{At, Absent, NoStage, PathOutside}
 
 -- ---- THE HALVING RULE
@@ -27,8 +27,8 @@ use Rattle.access.specs.declared.Found.the-variants.{At, Absent, NoStage
 abbrev pub middle : ℕ → ℕ → ℕ
 middle low high = (low + high) / 2
 
--- the records from low on and before high are what is left at some turn: "low 0, high n", and where the record in the middle has its path in its store, "smaller record sets low to middle + 1,
--- larger sets high to middle"
+-- the records from low on and before high are what is left at some turn: "low 0, high n", and where the record in the middle has its path in its store,
+-- "smaller record sets low to middle + 1, larger sets high to middle"
 pub data ComesTo (rs ps key : List ℕ) (stage : ℕ) : ℕ → ℕ → Type 0 where
   all-records : ComesTo rs ps key stage 0 (recordsIn rs)
   past-smaller : {low high : ℕ} → ComesTo rs ps key stage low high → low < high → Lies rs ps (middle low high)
@@ -73,7 +73,8 @@ module _ (rs ps key : List ℕ) (stage : ℕ) where
   other : {A : Type 0} {i j k : ℕ} → At j k ≡ PathOutside i → A
   other e = let z : _≡_ {A = ℕ} 0 1 = cc in absurd (omega arith)
 
-  said-turn : (i f low high k : ℕ) → ((l h : ℕ) → h ≤ recordsIn rs → ComesTo rs ps key stage l h → halve p f l h (k + 1) ≡ PathOutside i → IsCompared rs ps key stage i × (Lies rs ps i → ⊥))
+  said-turn : (i f low high k : ℕ)
+      → ((l h : ℕ) → h ≤ recordsIn rs → ComesTo rs ps key stage l h → halve p f l h (k + 1) ≡ PathOutside i → IsCompared rs ps key stage i × (Lies rs ps i → ⊥))
       → low < high → high ≤ recordsIn rs → ComesTo rs ps key stage low high → {a : Probe} → Stands (middle low high) a
       → turn (λ l h. halve p f l h (k + 1)) low high (middle low high) (k + 1) a ≡ PathOutside i → IsCompared rs ps key stage i × (Lies rs ps i → ⊥)
   said-turn i f low high k ih l n c (outside q) e =
@@ -83,7 +84,8 @@ module _ (rs ps key : List ℕ) (stage : ℕ) where
   said-turn i f low high k ih l n c (equal q) e = other e
   said-turn i f low high k ih l n c (larger q r) e = ih low (middle low high) (omega arith) (before-larger c l q r) e
 
-  said-from : (i f low high k : ℕ) → high ≤ recordsIn rs → ComesTo rs ps key stage low high → halve p f low high k ≡ PathOutside i → IsCompared rs ps key stage i × (Lies rs ps i → ⊥)
+  said-from : (i f low high k : ℕ) → high ≤ recordsIn rs → ComesTo rs ps key stage low high → halve p f low high k ≡ PathOutside i
+      → IsCompared rs ps key stage i × (Lies rs ps i → ⊥)
   unfolding halve
   said-from i zero low high k n c e = let z : _≡_ {A = ℕ} 0 1 = cc in absurd (omega arith)
   said-from i (suc f) low high k n c e =
@@ -159,8 +161,8 @@ module _ (rs ps key : List ℕ) (stage : ℕ) where
 
   -- ---- THE CLAIM
 
-  -- 12 is answered for record i exactly if the stage is one of 0 to 3, the halving comes to record i, having found the path of each record that it compared before inside, and the path of record i
-  -- lies outside
+  -- 12 is answered for record i exactly if the stage is one of 0 to 3, the halving comes to record i, having found the path of each record that it compared
+  -- before inside, and the path of record i lies outside
   pub refusal-12-exactly : (i : ℕ) → (lookupAt rs ps key stage ≡ PathOutside i) ↔ ((stage ≤ highestStage) × IsCompared rs ps key stage i × (Lies rs ps i → ⊥))
   refusal-12-exactly i = (to, from)
     where

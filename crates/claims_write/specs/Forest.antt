@@ -1,5 +1,5 @@
--- The nodes of a store that shows the tree of a proper node table, by their numbers: which node of the table each of them is, where its parent stands, and in which order siblings stand. Over
--- the length of an id and the depth. Assumes nothing.
+-- The nodes of a store that shows the tree of a proper node table, by their numbers: which node of the table each of them is, where its parent stands, and in
+-- which order siblings stand. Over the length of an id and the depth. Assumes nothing.
 use Prim.Native.Nat.{ℕ, zero, suc, _+_, _-_, _*_, _^_, _≤_, _<_}
 use mathlib.Core.Path.{_≡_, refl, sym, ap, _∙_, subst}
 use mathlib.Core.Bool.{Bool, true, false}
@@ -7,21 +7,21 @@ use mathlib.Core.List.{List, [], _∷_, _++_}
 use mathlib.Core.Logic.{_⊎_, inl, inr, ⊎-elim}
 use native.Mathlib.Omega.{arith}
 use lib.Dec.{ltb, eqb}
-use lib.ListN.{length, getD, take, drop, replicate, length-append, length-replicate, List·getD-append}
+use lib.ListN.{length, getD, take, drop, replicate, length-append, List·getD-append}
 use lib.Seq.{take-at, take-take, take-nil, getD-append-add}
 use borrow.Author.Tests.{lt-ltb, eq-eqb, ne-eqb}
 use Rattle.laws.specs.Pick.{pick}
 use Rattle.laws.specs.Lists.{length-part, take-replicate}
 use Rattle.laws.specs.Order.{Before}
-use Rattle.laws.specs.Tests.{lt-or-ge, tri, Same, same, differs, same?}
+use Rattle.laws.specs.Tests.{lt-or-ge, Same, same, differs, same?}
 use Rattle.node.specs.Head.{minusOne}
-use Rattle.node.specs.Store.{idRoom, nodesIn, nameStartAt, nameEndAt, countAt, subtreesAt, parentAt, idAt, nameAt}
+use Rattle.node.specs.Store.{idRoom, nodesIn, countAt, subtreesAt, parentAt, idAt, nameAt}
 use Rattle.tree_write.specs.Order.{before, before-names}
 use Rattle.tree_write.specs.Tree.{idBytes, headBytes, each, nodeBytes}
 use Rattle.tree_write.specs.Kids.{Mem, here, there, Rising, done, more}
 use Rattle.proper.specs.Table.{Proper}
-use Rattle.grammar.specs.Number.{Count, covers, invalid}
-use Rattle.grammar.specs.Tree.{Tree, Subtrees, nodes}
+use Rattle.grammar.specs.Number.{covers, invalid}
+use Rattle.grammar.specs.Tree.{Subtrees, nodes}
 use Rattle.claims_tree.specs.Rendering.{countWord, howMany, idBytes as idFilled}
 use Rattle.claims_tree.specs.Shown.{ShowsNode, ShowsTree, ShowsSubtrees}
 use Rattle.claims_write.specs.SameTree.{SameNode}
@@ -60,7 +60,8 @@ same-node n ns nm i s ms j parent place k small h many x =
       spans = omega (arith, x .starts, x .ends);
       count = x .counts ∙ count-kept (countAt ns i);
       subtrees = x .subtrees-there ∙ many;
-      id = λ d. front ∙ ap (λ (t : Bool). take n (idFilled (pick t [] (idAt n ns i)))) (ne-eqb (countAt ns i) minusOne d) ∙ take-at (idAt n ns i) (replicate (idRoom - length (idAt n ns i)) 0) n (length-id n ns i small h);
+      id = λ d. front ∙ ap (λ (t : Bool). take n (idFilled (pick t [] (idAt n ns i)))) (ne-eqb (countAt ns i) minusOne d)
+          ∙ take-at (idAt n ns i) (replicate (idRoom - length (idAt n ns i)) 0) n (length-id n ns i small h);
       no-id = λ e. front ∙ ap (λ (t : Bool). take n (idFilled (pick t [] (idAt n ns i)))) (eq-eqb (countAt ns i) minusOne e) ∙ take-replicate n idRoom 0 small;
     }
   where
@@ -69,11 +70,12 @@ same-node n ns nm i s ms j parent place k small h many x =
 
 -- ---- A FOREST IN THE STORE
 
--- trees one behind the other, from number `me` on, whose roots have the parent p in the store and the parent i in the table: the roots are the nodes l of the table, and all nodes, in their order,
--- are its nodes w
+-- trees one behind the other, from number `me` on, whose roots have the parent p in the store and the parent i in the table: the roots are the nodes l of the
+-- table, and all nodes, in their order, are its nodes w
 pub data Forest (n : ℕ) (ns nm s ms : List ℕ) : ℕ → ℕ → ℕ → List ℕ → List ℕ → Type 0 where
   no-trees : {p i me : ℕ} → Forest n ns nm s ms p i me [] []
-  one-tree : {p i me x : ℕ} {l k a b : List ℕ} → SameNode n ns nm x s ms me → parentAt ms me ≡ p → parentAt ns x ≡ i → ((y : ℕ) → Mem y l → Before (nameAt nm ns x) (nameAt nm ns y))
+  one-tree : {p i me x : ℕ} {l k a b : List ℕ} → SameNode n ns nm x s ms me → parentAt ms me ≡ p → parentAt ns x ≡ i
+      → ((y : ℕ) → Mem y l → Before (nameAt nm ns x) (nameAt nm ns y))
       → Forest n ns nm s ms me x (me + 1) k a → Forest n ns nm s ms p i (me + suc (length a)) l b → Forest n ns nm s ms p i me (x ∷ l) (x ∷ (a ++ b))
 
 -- what a list of two parts has behind the first
@@ -89,17 +91,20 @@ module _ (n : ℕ) (ns nm s ms : List ℕ) where
       ⊎-elim
       (λ k.
       let e : me + 1 + j ≡ me + suc j = omega arith in
-      subst (λ (m : ℕ). SameNode n ns nm m s ms (me + suc j)) (sym (List·getD-append a b 0 j k)) (subst (λ (m : ℕ). SameNode n ns nm (getD a j 0) s ms m) e (forest-nodes f j k)))
+      subst (λ (m : ℕ). SameNode n ns nm m s ms (me + suc j)) (sym (List·getD-append a b 0 j k))
+      (subst (λ (m : ℕ). SameNode n ns nm (getD a j 0) s ms m) e (forest-nodes f j k)))
       (λ k.
       let q : ℕ = j - length a in
       let e : me + suc (length a) + q ≡ me + suc j = omega arith in
-      subst (λ (m : ℕ). SameNode n ns nm m s ms (me + suc j)) (sym (behind a b j k)) (subst (λ (m : ℕ). SameNode n ns nm (getD b q 0) s ms m) e (forest-nodes g q (omega (arith, length-append a b)))))
+      subst (λ (m : ℕ). SameNode n ns nm m s ms (me + suc j)) (sym (behind a b j k))
+      (subst (λ (m : ℕ). SameNode n ns nm (getD b q 0) s ms m) e (forest-nodes g q (omega (arith, length-append a b)))))
       (lt-or-ge j (length a))
 
   -- where the parent of a node stands, in the store and among the table's nodes
   abbrev Parented : ℕ → ℕ → ℕ → List ℕ → ℕ → Type 0
   Parented p i me w j =
-      ((parentAt ms (me + j) ≡ p) × (parentAt ns (getD w j 0) ≡ i)) ⊎ ((q : ℕ) × (q < j) × (parentAt ms (me + j) ≡ me + q) × (parentAt ns (getD w j 0) ≡ getD w q 0))
+      ((parentAt ms (me + j) ≡ p) × (parentAt ns (getD w j 0) ≡ i))
+      ⊎ ((q : ℕ) × (q < j) × (parentAt ms (me + j) ≡ me + q) × (parentAt ns (getD w j 0) ≡ getD w q 0))
 
   pub forest-parents : {p i me : ℕ} {l w : List ℕ} → Forest n ns nm s ms p i me l w → (j : ℕ) → j < length w → Parented p i me w j
   forest-parents no-trees j h = absurd (omega arith)
@@ -136,7 +141,8 @@ module _ (n : ℕ) (ns nm s ms : List ℕ) where
   hangs (one-tree {p = p} {me = me} {x = x} {l = l} {k = ks} {a = a} {b = b} own up under past f g) j h k =
       ⊎-elim
       (λ m.
-      ⊎-elim (λ q. first m (hangs f j (omega arith) (omega arith))) (λ q. later (hangs g j q (omega (arith, length-append a b)))) (lt-or-ge j (me + suc (length a))))
+      ⊎-elim (λ q. first m (hangs f j (omega arith) (omega arith)))
+      (λ q. later (hangs g j q (omega (arith, length-append a b)))) (lt-or-ge j (me + suc (length a))))
       (λ m. let e : me ≡ j = omega arith in subst (λ (q : ℕ). Hangs p me (x ∷ l) q) e (inl (up, x, here, own .name)))
       (lt-or-ge me j)
     where
@@ -149,11 +155,13 @@ module _ (n : ℕ) (ns nm s ms : List ℕ) where
       later (inr (c, d)) = inr (omega arith, d)
 
   -- parents stand outside the forest, or in it and before
-  pub forest-parent : {p i me : ℕ} {l w : List ℕ} → Forest n ns nm s ms p i me l w → (j : ℕ) → me ≤ j → j < me + length w → (parentAt ms j ≡ p) ⊎ ((me ≤ parentAt ms j) × (parentAt ms j < j))
+  pub forest-parent : {p i me : ℕ} {l w : List ℕ} → Forest n ns nm s ms p i me l w → (j : ℕ) → me ≤ j → j < me + length w
+      → (parentAt ms j ≡ p) ⊎ ((me ≤ parentAt ms j) × (parentAt ms j < j))
   forest-parent f j h k = ⊎-elim (λ (e, y, m, d). inl e) (λ (c, d). inr (c, d)) (hangs f j h k)
 
   -- siblings stand in byte order of name
-  pub forest-by-name : {p i me : ℕ} {l w : List ℕ} → Forest n ns nm s ms p i me l w → p < me → (j k : ℕ) → me ≤ j → j < k → k < me + length w → parentAt ms j ≡ parentAt ms k
+  pub forest-by-name : {p i me : ℕ} {l w : List ℕ} → Forest n ns nm s ms p i me l w → p < me → (j k : ℕ) → me ≤ j → j < k → k < me + length w
+      → parentAt ms j ≡ parentAt ms k
       → Before (nameAt s ms j) (nameAt s ms k)
   forest-by-name no-trees low j k h q r e = absurd (omega arith)
   forest-by-name (one-tree {p = p} {me = me} {x = x} {l = l} {k = ks} {a = a} {b = b} own up under past f g) low j k h q r e =
@@ -174,7 +182,8 @@ module _ (n : ℕ) (ns nm s ms : List ℕ) where
       (lt-or-ge k (me + suc (length a))))
       (lt-or-ge me j)
     where
-      apart : j < me + suc (length a) → (parentAt ms j ≡ me) ⊎ ((me + 1 ≤ parentAt ms j) × (parentAt ms j < j)) → (parentAt ms k ≡ p) ⊎ ((me + suc (length a) ≤ parentAt ms k) × (parentAt ms k < k)) → ⊥
+      apart : j < me + suc (length a) → (parentAt ms j ≡ me) ⊎ ((me + 1 ≤ parentAt ms j) × (parentAt ms j < j))
+          → (parentAt ms k ≡ p) ⊎ ((me + suc (length a) ≤ parentAt ms k) × (parentAt ms k < k)) → ⊥
       apart t (inl c) (inl d) = omega arith
       apart t (inl c) (inr (d, d₁)) = omega arith
       apart t (inr (c, c₁)) (inl d) = omega arith
@@ -189,29 +198,34 @@ module _ (n : ℕ) (ns nm s ms : List ℕ) where
       to-later c (inr (d, v)) = absurd (omega arith)
 
   -- file order: what stands between a node and its parent hangs at or below that parent
-  pub forest-in-order : {p i me : ℕ} {l w : List ℕ} → Forest n ns nm s ms p i me l w → p < me → (j k : ℕ) → me ≤ j → j < k → k < me + length w → parentAt ms k < j
+  pub forest-in-order : {p i me : ℕ} {l w : List ℕ} → Forest n ns nm s ms p i me l w → p < me → (j k : ℕ) → me ≤ j → j < k → k < me + length w
+      → parentAt ms k < j
       → parentAt ms k ≤ parentAt ms j
   forest-in-order no-trees low j k h q r e = absurd (omega arith)
   forest-in-order (one-tree {p = p} {me = me} {x = x} {l = l} {k = ks} {a = a} {b = b} own up under past f g) low j k h q r e =
       ⊎-elim (λ u. first (λ t. forest-in-order f (omega arith) j k t q (omega arith) e) (omega arith) (forest-parent f k (omega arith) (omega arith)))
-      (λ u. later (λ t. forest-in-order g (omega arith) j k t q (omega (arith, length-append a b)) e) (forest-parent g k u (omega (arith, length-append a b))) (forest-parent (one-tree own up under past f g) j h (omega arith)))
+      (λ u. later (λ t. forest-in-order g (omega arith) j k t q (omega (arith, length-append a b)) e)
+      (forest-parent g k u (omega (arith, length-append a b))) (forest-parent (one-tree own up under past f g) j h (omega arith)))
       (lt-or-ge k (me + suc (length a)))
     where
       at-root : me < j → j < me + 1 + length a → me ≤ parentAt ms j
       at-root t u = ⊎-elim (λ c. omega arith) (λ (c, d). omega arith) (forest-parent f j (omega arith) u)
 
-      first : (me + 1 ≤ j → parentAt ms k ≤ parentAt ms j) → k < me + 1 + length a → (parentAt ms k ≡ me) ⊎ ((me + 1 ≤ parentAt ms k) × (parentAt ms k < k)) → parentAt ms k ≤ parentAt ms j
+      first : (me + 1 ≤ j → parentAt ms k ≤ parentAt ms j) → k < me + 1 + length a → (parentAt ms k ≡ me) ⊎ ((me + 1 ≤ parentAt ms k) × (parentAt ms k < k))
+          → parentAt ms k ≤ parentAt ms j
       first ih t (inl c) = let d : me ≤ parentAt ms j = at-root (omega arith) (omega arith) in omega arith
       first ih t (inr (c, d)) = ih (omega arith)
 
-      later : (me + suc (length a) ≤ j → parentAt ms k ≤ parentAt ms j) → (parentAt ms k ≡ p) ⊎ ((me + suc (length a) ≤ parentAt ms k) × (parentAt ms k < k)) → (parentAt ms j ≡ p) ⊎ ((me ≤ parentAt ms j) × (parentAt ms j < j)) → parentAt ms k ≤ parentAt ms j
+      later : (me + suc (length a) ≤ j → parentAt ms k ≤ parentAt ms j) → (parentAt ms k ≡ p) ⊎ ((me + suc (length a) ≤ parentAt ms k) × (parentAt ms k < k))
+          → (parentAt ms j ≡ p) ⊎ ((me ≤ parentAt ms j) × (parentAt ms j < j)) → parentAt ms k ≤ parentAt ms j
       later ih (inl c) (inl d) = omega arith
       later ih (inl c) (inr (d, d₁)) = omega arith
       later ih (inr (c, c₁)) d = ih (omega arith)
 
 -- ---- THE TREE OF A TABLE IS SUCH A FOREST BELOW ITS ROOT
 
-rise-by-name : (ns nm : List ℕ) {l : List ℕ} → Rising (λ x y. before ns nm x y ≡ true) l → ((x y : ℕ) → Mem x l → Mem y l → nameAt nm ns x ≡ nameAt nm ns y → x ≡ y)
+rise-by-name : (ns nm : List ℕ) {l : List ℕ} → Rising (λ x y. before ns nm x y ≡ true) l
+    → ((x y : ℕ) → Mem x l → Mem y l → nameAt nm ns x ≡ nameAt nm ns y → x ≡ y)
     → Rising (λ x y. Before (nameAt nm ns x) (nameAt nm ns y)) l
 rise-by-name ns nm done h = done
 rise-by-name ns nm (more {x = x} r rest) h =
@@ -228,7 +242,8 @@ pub record Planted (n : ℕ) (ns nm s ms : List ℕ) (d p me x : ℕ) : Type 0 w
 module _ (n limit : ℕ) (ns nm : List ℕ) (small : n ≤ idRoom) (few : length ns < 2 ^ 64) (proper : Proper limit ns nm) (s ms : List ℕ) where
   forest-of : (d p i : ℕ) (l : List ℕ) → ((x : ℕ) → Mem x l → parentAt ns x ≡ i) → Rising (λ x y. Before (nameAt nm ns x) (nameAt nm ns y)) l
       → ((x me place : ℕ) → Mem x l → ShowsTree s ms p me (treeAt n ns nm d place x) → Planted n ns nm s ms d p me x)
-      → (me place : ℕ) → ShowsSubtrees s ms p me (subtreesOf (treeAt n ns nm d) (nodeBytes n ns nm d) place l) → Forest n ns nm s ms p i me l (each (walk ns nm d) l)
+      → (me place : ℕ) → ShowsSubtrees s ms p me (subtreesOf (treeAt n ns nm d) (nodeBytes n ns nm d) place l)
+      → Forest n ns nm s ms p i me l (each (walk ns nm d) l)
   unfolding subtreesOf each
   forest-of d p i [] child rise ih me place shows = no-trees
   forest-of d p i (x ∷ l) child (more r rise) ih me place (one, others) =
@@ -238,15 +253,18 @@ module _ (n limit : ℕ) (ns nm : List ℕ) (small : n ≤ idRoom) (few : length
       let shows : ShowsSubtrees s ms p (me + suc (length (t .rest))) (subtreesOf (treeAt n ns nm d) (nodeBytes n ns nm d) next l) =
       subst (λ (k : ℕ). ShowsSubtrees s ms p (me + k) (subtreesOf (treeAt n ns nm d) (nodeBytes n ns nm d) next l)) size others in
       let later = forest-of d p i l (λ y m. child y (there m)) rise (λ y a b m. ih y a b (there m)) (me + suc (length (t .rest))) next shows in
-      subst (λ (w : List ℕ). Forest n ns nm s ms p i me (x ∷ l) (w ++ each (walk ns nm d) l)) (sym (t .whole)) (one-tree (t .own) (t .up) (child x here) r (t .forest) later)
+      subst (λ (w : List ℕ). Forest n ns nm s ms p i me (x ∷ l) (w ++ each (walk ns nm d) l)) (sym (t .whole))
+      (one-tree (t .own) (t .up) (child x here) r (t .forest) later)
 
-  pub planted : (d k x p me place : ℕ) → x < nodesIn ns → Level ns k x → k + d ≡ limit + 1 → ShowsTree s ms p me (treeAt n ns nm d place x) → Planted n ns nm s ms d p me x
+  pub planted : (d k x p me place : ℕ) → x < nodesIn ns → Level ns k x → k + d ≡ limit + 1 → ShowsTree s ms p me (treeAt n ns nm d place x)
+      → Planted n ns nm s ms d p me x
   unfolding walk treeAt
   planted zero k x p me place h l e shows = absurd (omega (arith, level-within l limit (proper .depth x h)))
   planted (suc d) k x p me place h l e (own, under) =
       let start : ℕ = place + length (headBytes n ns nm x) in
       let ts : Subtrees = subtreesOf (treeAt n ns nm d) (nodeBytes n ns nm d) start (kidsOf ns nm x) in
-      let many : howMany ts ≡ subtreesAt ns x = how-many (treeAt n ns nm d) (nodeBytes n ns nm d) (kidsOf ns nm x) start ∙ length-kids ns nm x ∙ sym (proper .subtrees x h) in
+      let many : howMany ts ≡ subtreesAt ns x =
+      how-many (treeAt n ns nm d) (nodeBytes n ns nm d) (kidsOf ns nm x) start ∙ length-kids ns nm x ∙ sym (proper .subtrees x h) in
       record {
         own = same-node n ns nm x s ms me p place (howMany ts) small h many own;
         up = own .parented;

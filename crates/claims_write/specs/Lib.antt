@@ -24,3 +24,4 @@ pub mod Forest
 pub mod TreeBack
 pub mod Whole
 pub mod Example
+pub mod Needed

@@ -1,5 +1,5 @@
--- A PROPER NODE TABLE IN 01'S WORDS (01, Writing): over the table's accessors, the grammar's names without NUL and distinct names, and the levels of nodes; and that the writer's
--- test passes exactly these. Over the depth. Assumes nothing.
+-- A PROPER NODE TABLE IN 01'S WORDS (01, Writing): over the table's accessors, the grammar's names without NUL and distinct names, and the levels of nodes;
+-- and that the writer's test passes exactly these. Over the depth. Assumes nothing.
 use Prim.Native.Nat.{ℕ, zero, suc, _+_, _-_, _^_, _≤_, _<_}
 use mathlib.Core.Path.{_≡_, refl, sym, ap, _∙_, subst}
 use mathlib.Core.Bool.{Bool, true, false}
@@ -8,11 +8,10 @@ use mathlib.Core.Logic.{_⊎_, ⊎-elim, _↔_}
 use native.Mathlib.Omega.{arith}
 use lib.Dec.{leb, eqb}
 use lib.ListN.{length}
-use borrow.Author.Tests.{eq-eqb, ne-eqb, le-leb, leb-true}
+use borrow.Author.Tests.{ne-eqb, le-leb, leb-true}
 use Rattle.laws.specs.Pick.{pick}
 use Rattle.laws.specs.Tests.{tri, Same, same, differs, same?}
 use Rattle.slices.specs.Bytes.{nulIn, nulAt}
-use Rattle.slices.specs.declared.Ends.the-variants.{With}
 use Rattle.node.specs.Head.{minusOne}
 use Rattle.node.specs.Store.{nodesIn, nameStartAt, nameEndAt, countAt, subtreesAt, parentAt, isPart, nameInside, nameAt}
 use Rattle.siblings.specs.Siblings.{isChild}
@@ -23,7 +22,7 @@ use Rattle.proper.specs.Table.{Proper, proper-exactly}
 use Rattle.tree_write.specs.Kids.{Mem, here, there, not-mem, Rising, done, more}
 use Rattle.grammar.specs.Entry.{NoNul}
 use Rattle.grammar.specs.Entry.NoNul.{empty, byte}
-use Rattle.grammar.specs.Tree.{Other, alone, differs as other-differs, Distinct, no-names, one-more}
+use Rattle.grammar.specs.Tree.{Other, differs as other-differs, Distinct, one-more}
 use Rattle.claims_write.specs.Tree.{no-nul, distinct-names, Level, root, below, level-within}
 use Rattle.claims_write.specs.Count.{level-found}
 use Rattle.claims_write.specs.Stored.{first-or-later}
@@ -79,7 +78,8 @@ lies-inside : (ns nm : List ℕ) (i : ℕ) → (nameInside nm ns i ≡ true) ↔
 unfolding nameInside isPart
 lies-inside ns nm i = (λ e. to (leb (nameStartAt ns i) (nameEndAt ns i)) refl e, λ (a, b). rw (le-leb (nameStartAt ns i) (nameEndAt ns i) a) (le-leb (nameEndAt ns i) (length nm) b))
   where
-    to : (t : Bool) → leb (nameStartAt ns i) (nameEndAt ns i) ≡ t → pick t (leb (nameEndAt ns i) (length nm)) false ≡ true → (nameStartAt ns i ≤ nameEndAt ns i) × (nameEndAt ns i ≤ length nm)
+    to : (t : Bool) → leb (nameStartAt ns i) (nameEndAt ns i) ≡ t → pick t (leb (nameEndAt ns i) (length nm)) false ≡ true
+        → (nameStartAt ns i ≤ nameEndAt ns i) × (nameEndAt ns i ≤ length nm)
     to true e q = (leb-true (nameStartAt ns i) (nameEndAt ns i) e, leb-true (nameEndAt ns i) (length nm) q)
     to false e q = absurd (false-true q)
 
@@ -139,7 +139,8 @@ module _ (ns : List ℕ) (p : ℕ) where
   children-rise zero j = done
   children-rise (suc k) j = by (eqb (parentAt ns j) p) (children-rise k (j + 1))
     where
-      by : (t : Bool) → Rising (λ x y. x < y) (childrenFrom ns p k (j + 1)) → Rising (λ x y. x < y) (pick t (j ∷ childrenFrom ns p k (j + 1)) (childrenFrom ns p k (j + 1)))
+      by : (t : Bool) → Rising (λ x y. x < y) (childrenFrom ns p k (j + 1))
+          → Rising (λ x y. x < y) (pick t (j ∷ childrenFrom ns p k (j + 1)) (childrenFrom ns p k (j + 1)))
       by true r = more {x = j} (λ y m. let (a, b, c) = children-are k (j + 1) y m in omega arith) r
       by false r = r
 

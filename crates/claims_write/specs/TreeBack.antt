@@ -1,6 +1,7 @@
--- THE TREE READS BACK: where a node table is given and TREE asked for, and the writer is done, the reader's node store holds the table's tree (`SameTree`): each node once, with its parent, count,
--- subtree count, id and name, siblings in byte order of name. Assumes that the file is bytes and that no slice has 2^64 bytes or more, premises with names.
-use Prim.Native.Nat.{ℕ, zero, suc, _+_, _-_, _*_, _/_, _^_, _≤_, _<_}
+-- THE TREE READS BACK: where a node table is given and TREE asked for, and the writer is done, the reader's node store holds the table's tree (`SameTree`):
+-- each node once, with its parent, count, subtree count, id and name, siblings in byte order of name. Assumes that the file is bytes and that no slice has
+-- 2^64 bytes or more, premises with names.
+use Prim.Native.Nat.{ℕ, zero, suc, _+_, _*_, _^_, _≤_, _<_}
 use mathlib.Core.Path.{_≡_, refl, sym, ap, _∙_, subst}
 use mathlib.Core.Bool.{Bool, true, false}
 use mathlib.Core.List.{List, [], _∷_, _++_, append-nil}
@@ -11,8 +12,7 @@ use lib.ListN.{length, getD, take, drop, length-append, length-drop}
 use lib.Seq.{take-append-le, drop-append-le}
 use borrow.Author.Tests.{lt-ltb, eq-eqb}
 use Rattle.laws.specs.Pick.{pick}
-use Rattle.laws.specs.Order.{Before}
-use Rattle.laws.specs.Tests.{lt-or-ge, tri, Same, same, differs, same?}
+use Rattle.laws.specs.Tests.{tri, Same, same, differs, same?}
 use Rattle.format.specs.Format.{idSize, depthLimit}
 use Rattle.wire.specs.BigEndian.{be-left}
 use Rattle.sha1.specs.Sha1.{sha1}
@@ -37,7 +37,7 @@ use Rattle.claims_write.specs.Trees.{treeWritten, proper, written-tree-i
 use Rattle.claims_write.specs.Claims.{bytes, reading, Roomy, tree-reads-back}
 use Rattle.claims_write.specs.Count.{walk, met-once, walk-inside, walk-length}
 use Rattle.claims_write.specs.SameTree.{SameNode, SameTree}
-use Rattle.claims_write.specs.Forest.{Forest, forest-nodes, forest-parents, forest-parent, forest-by-name, forest-in-order, Planted, planted}
+use Rattle.claims_write.specs.Forest.{forest-nodes, forest-parents, forest-by-name, forest-in-order, Planted, planted}
 
 -- ---- a list that has each number once
 
@@ -75,7 +75,8 @@ hit-twice (x ∷ w) i (suc j) (suc k) h l e f = omega (arith, hit-twice w i j k 
 
 -- ---- a store that shows the table's tree holds it
 
-module _ (n limit : ℕ) (ns nm : List ℕ) (small : n ≤ idRoom) (few : length ns < 2 ^ 64) (proper : Proper limit ns nm) (s ms : List ℕ) (place : ℕ) (room : nodesIn ns ≤ nodesIn ms)
+module _ (n limit : ℕ) (ns nm : List ℕ) (small : n ≤ idRoom) (few : length ns < 2 ^ 64) (proper : Proper limit ns nm) (s ms : List ℕ) (place : ℕ)
+    (room : nodesIn ns ≤ nodesIn ms)
     (shows : ShowsTree s ms minusOne 0 (treeAt n ns nm limit place 0)) where
   abbrev order : List ℕ
   order = walk ns nm limit 0
@@ -135,7 +136,8 @@ module _ (n limit : ℕ) (ns nm : List ℕ) (small : n ≤ idRoom) (few : length
           e : 0 + 1 + j ≡ suc j
           e = omega arith
 
-          by : ((parentAt ms (0 + 1 + j) ≡ 0) × (parentAt ns (getD (whole .rest) j 0) ≡ 0)) ⊎ ((q : ℕ) × (q < j) × (parentAt ms (0 + 1 + j) ≡ 0 + 1 + q) × (parentAt ns (getD (whole .rest) j 0) ≡ getD (whole .rest) q 0))
+          by : ((parentAt ms (0 + 1 + j) ≡ 0) × (parentAt ns (getD (whole .rest) j 0) ≡ 0))
+              ⊎ ((q : ℕ) × (q < j) × (parentAt ms (0 + 1 + j) ≡ 0 + 1 + q) × (parentAt ns (getD (whole .rest) j 0) ≡ getD (whole .rest) q 0))
               → (parentAt ms (suc j) < suc j) × (at (parentAt ms (suc j)) ≡ parentAt ns (at (suc j)))
           by (inl (a, b)) =
               let p : parentAt ms (suc j) ≡ 0 = ap (parentAt ms) (sym e) ∙ a in
@@ -221,7 +223,8 @@ module _ (rs ps ns nm : List ℕ) (o : Options) (asked : writesTree o ≡ true) 
       let all : Lies w 0 (length w) w = record { fits = omega arith; rest = []; is = sym (append-nil w) } in
       let l₀ : Lies w 0 (length w) (h ++ (t ++ (b ++ r))) = subst (λ (x : List ℕ). Lies w 0 (length w) x) (written-parts rs ps ns nm o) all in
       let l₁ = lies-left b r (lies-right t (b ++ r) (lies-right h (t ++ (b ++ r)) l₀)) in
-      let l₂ : Lies w (0 + length h + length t) (length w) (((head ++ body) ++ sparse) ++ e) = subst (λ (x : List ℕ). Lies w (0 + length h + length t) (length w) x) parts l₁ in
+      let l₂ : Lies w (0 + length h + length t) (length w) (((head ++ body) ++ sparse) ++ e) =
+      subst (λ (x : List ℕ). Lies w (0 + length h + length t) (length w) x) parts l₁ in
       lies-at (lies-right head body (lies-left (head ++ body) sparse (lies-left ((head ++ body) ++ sparse) e l₂)))
       (omega (arith, length-header (versionOf rs) (count rs ps ns nm o), length-head treeSignature (length body) refl))
 
@@ -232,25 +235,33 @@ both o given wanted = ap (λ (t : Bool). pick t (o .cache) false) given ∙ want
 
 -- ---- THE THEOREM
 
-module _ (rs ps ns nm : List ℕ) (o : Options) (out : List ℕ) (version size : ℕ) (done : writeAll idSize sha1 depthLimit rs ps ns nm o out .answer ≡ Done version size) (few : length ns < 2 ^ 64)
-    (ends : PathsEnd rs ps) (records′ paths′ nodes′ : List ℕ) (slices : Slices (bytes rs ps ns nm o out version size done few ends records′ paths′ nodes′) paths′ nodes′) (roomy : Roomy rs ps ns o records′ paths′ nodes′) where
+module _ (rs ps ns nm : List ℕ) (o : Options) (out : List ℕ) (version size : ℕ)
+    (done : writeAll idSize sha1 depthLimit rs ps ns nm o out .answer ≡ Done version size) (few : length ns < 2 ^ 64) (ends : PathsEnd rs ps)
+    (records′ paths′ nodes′ : List ℕ)
+    (slices : Slices (bytes rs ps ns nm o out version size done few ends records′ paths′ nodes′) paths′ nodes′)
+    (roomy : Roomy rs ps ns o records′ paths′ nodes′) where
   pub tree-reads-back-node-by-node : o .tree ≡ true → o .cache ≡ true
-      → (at : ℕ → ℕ) × SameTree idSize ns nm (bytes rs ps ns nm o out version size done few ends records′ paths′ nodes′) (reading rs ps ns nm o out version size done few ends records′ paths′ nodes′ .nodes) at
+      → (at : ℕ → ℕ) × SameTree idSize ns nm (bytes rs ps ns nm o out version size done few ends records′ paths′ nodes′)
+      (reading rs ps ns nm o out version size done few ends records′ paths′ nodes′ .nodes) at
   tree-reads-back-node-by-node given wanted =
       let file : List ℕ = bytes rs ps ns nm o out version size done few ends records′ paths′ nodes′ in
       let asked : writesTree o ≡ true = both o given wanted in
       let fits : Proper depthLimit ns nm = proper rs ps ns nm o out version size done few asked in
       let t : Tree = treeWritten rs ps ns nm in
       let spelled : Node idSize (treePlace rs ps) (treeBody ns nm) t = written-tree-is-spelled rs ps ns nm o out version size done few asked in
-      let many : length (treeBytes t) ≡ nodesIn ns * 72 = tree-length idSize (lit≤ tt) t spelled minusOne 0 ∙ ap (λ (k : ℕ). k * 72) (written-tree-nodes rs ps ns nm o out version size done few asked) in
+      let many : length (treeBytes t) ≡ nodesIn ns * 72 =
+      tree-length idSize (lit≤ tt) t spelled minusOne 0 ∙ ap (λ (k : ℕ). k * 72) (written-tree-nodes rs ps ns nm o out version size done few asked) in
       let lies : Lies file (treePlace rs ps) (length file) (treeBody ns nm) =
-      subst (λ (f : List ℕ). Lies f (treePlace rs ps) (length f) (treeBody ns nm)) (sym (file-is rs ps ns nm o out version size done)) (body-lies rs ps ns nm o asked) in
-      let shown : ShowsTree file (treeBytes t) minusOne 0 t = rendered-is-shown idSize (lit≤ tt) file (length file) (omega arith) (slices .file) t spelled lies (omega arith) in
+      subst (λ (f : List ℕ). Lies f (treePlace rs ps) (length f) (treeBody ns nm)) (sym (file-is rs ps ns nm o out version size done))
+      (body-lies rs ps ns nm o asked) in
+      let shown : ShowsTree file (treeBytes t) minusOne 0 t =
+      rendered-is-shown idSize (lit≤ tt) file (length file) (omega arith) (slices .file) t spelled lies (omega arith) in
       let same : SameTree idSize ns nm file (treeBytes t) (λ j. getD (walk ns nm depthLimit 0) j 0) =
       shown-is-same idSize depthLimit ns nm (lit≤ tt) few fits file (treeBytes t) (treePlace rs ps) (omega arith) shown in
       let left : reading rs ps ns nm o out version size done few ends records′ paths′ nodes′ .nodes ≡ filled nodes′ (treeBytes t) =
       tree-reads-back rs ps ns nm o out version size done few ends records′ paths′ nodes′ slices roomy asked in (
         (λ j. getD (walk ns nm depthLimit 0) j 0),
         subst (λ (m : List ℕ). SameTree idSize ns nm file m (λ j. getD (walk ns nm depthLimit 0) j 0)) (sym left)
-            (in-front idSize (lit≤ tt) ns nm file (treeBytes t) (drop (length (treeBytes t)) nodes′) (λ j. getD (walk ns nm depthLimit 0) j 0) (fits .some) same),
+            (in-front idSize (lit≤ tt) ns nm file (treeBytes t) (drop (length (treeBytes t)) nodes′) (λ j. getD (walk ns nm depthLimit 0) j 0)
+            (fits .some) same),
       )
