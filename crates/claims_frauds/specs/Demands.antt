@@ -28,18 +28,18 @@ use Rattle.file.specs.declared.Answer.the-variants.{Read, NotSpelled}
 use Rattle.write.specs.File as writing
 use Rattle.write.specs.declared.Options.{Options}
 use Rattle.write.specs.declared.Answer.the-variants.{Done, PathOutside, NotProper, TooLarge, ShortOutput}
-use Rattle.proper.specs.Table.{Proper}
 use Rattle.claims_entries.specs.Rendering.{pathsBytes}
-use Rattle.claims_entries.specs.Said.{filled, StopsAt, RoomFor}
+use Rattle.claims_entries.specs.Said.{StopsAt, RoomFor}
 use Rattle.claims_tree.specs.Rendering.{treeBytes}
 use Rattle.claims.specs.Premises.{Slices, GoodTrailer}
 use Rattle.claims.specs.Said.{holding, SaysFile}
 use Rattle.claims.specs.Claims.{TreeFits, Renders, IsRead}
 use Rattle.claims_write.specs.Meaning.{keptOf, meaningsOf, WritableTable, SameEntry}
-use Rattle.claims_write.specs.Trees.{treeWritten}
+use Rattle.claims_write.specs.ProperTable.{ProperTable}
 use Rattle.claims_write.specs.Sizes.{treeAsked, eoieAsked, extensionsPlace, fileSize}
 use Rattle.claims_write.specs.Answers.{PathsInside, FirstOutside, ProperIfAsked, OverTheLimits, MayBeWritten, Version, IsDone}
 use Rattle.claims_write.specs.Asked.{AsAsked, MakesSparse, Means}
+use Rattle.claims_write.specs.SameTree.{SameTree}
 
 -- ---- what is tried
 
@@ -101,7 +101,7 @@ pub record Answers (write : Writer) : Type 0 where
   pub refusal-12-exactly : (rs ps ns nm : List ℕ) (o : Options) (out : List ℕ) (i : ℕ) → (write rs ps ns nm o out .answer ≡ PathOutside i) ↔ FirstOutside rs ps i
   -- then 16, where TREE is to be written
   pub refusal-16-exactly : (rs ps ns nm : List ℕ) (o : Options) (out : List ℕ)
-      → (write rs ps ns nm o out .answer ≡ NotProper) ↔ (PathsInside rs ps × (treeAsked o ≡ true) × ¬ Proper depthLimit ns nm)
+      → (write rs ps ns nm o out .answer ≡ NotProper) ↔ (PathsInside rs ps × (treeAsked o ≡ true) × ¬ ProperTable depthLimit ns nm)
   -- then 15
   pub refusal-15-exactly : (rs ps ns nm : List ℕ) (o : Options) (out : List ℕ)
       → (write rs ps ns nm o out .answer ≡ TooLarge) ↔ (PathsInside rs ps × ProperIfAsked ns nm o × OverTheLimits rs ps ns nm o)
@@ -147,8 +147,9 @@ fileIn write c = take (c .size) (written write c .out)
 abbrev pub readAgain : Writer → Reader → Case → reading.Outcome
 readAgain write read c = read (fileIn write c) (c .records′) (c .paths′) (c .nodes′)
 
-abbrev pub treeOf : Case → Tree
-treeOf c = treeWritten (c .records) (c .paths) (c .nodes) (c .names)
+-- a node store whose names stand in the file holds the tree of the node table: each node once, with its parent, count, id and name, siblings by name
+abbrev pub HoldsTheTree : Writer → Case → List ℕ → Type 0
+HoldsTheTree write c store = (at : ℕ → ℕ) × SameTree idSize (c .nodes) (c .names) (fileIn write c) store at
 
 -- the stores lent to the reader are large enough for the records and path bytes that are written, and for the nodes where TREE is
 pub record LargeEnough (c : Case) : Type 0 where
@@ -175,10 +176,11 @@ pub record ReadsBack (write : Writer) (read : Reader) : Type 0 where
   pub written-reads-back : (c : Case) → Done? write c → (j i : ℕ) → getElem? (keptOf (c .records)) j ≡ some i
       → SameEntry (c .records) (c .paths) i (readAgain write read c .records) (readAgain write read c .paths) j
   -- the written tree reads back
-  pub tree-reads-back : (c : Case) → Done? write c → treeAsked (c .options) ≡ true → readAgain write read c .nodes ≡ filled (c .nodes′) (treeBytes (treeOf c))
+  pub tree-reads-back : (c : Case) → Done? write c → treeAsked (c .options) ≡ true → HoldsTheTree write c (readAgain write read c .nodes)
   -- what is written is spelled by the grammar, and means the tables
   pub written-is-spelled : (c : Case) → Done? write c
-      → (m : Index) × File idSize (fileIn write c) m × Means (c .records) (c .paths) (c .options) (c .version) m × (treeAsked (c .options) ≡ true → m .tree ≡ some (treeOf c))
+      → (m : Index) × File idSize (fileIn write c) m × Means (c .records) (c .paths) (c .options) (c .version) m
+      × (treeAsked (c .options) ≡ true → (t : Tree) × (m .tree ≡ some t) × HoldsTheTree write c (treeBytes t))
   -- EOIE that was written is found, with the offset where the extensions start
   pub eoie-is-found : (c : Case) → Done? write c → eoieAsked (c .records) (c .options) ≡ true
       → offsetIn idSize sha1 (fileIn write c) ≡ Offset (fileAt (extensionsPlace idSize (c .records) (c .paths)))

@@ -1,7 +1,7 @@
 -- OURS MEET THE DEMANDS: the definitions that the contracts cite. Assumes nothing.
 use Prim.Native.Nat.{ℕ}
 use mathlib.Core.Path.{_≡_, refl, sym, ap, _∙_}
-use mathlib.Core.Bool.{Bool}
+use mathlib.Core.Bool.{Bool, true, false, _&&_, false≢true}
 use mathlib.Core.List.{List, [], _∷_}
 use lib.ListN.{take}
 use Rattle.laws.specs.Pick.{pick}
@@ -19,12 +19,13 @@ use Rattle.grammar.specs.Unique as grammar
 use Rattle.file.specs.Read.{readFile}
 use Rattle.file.specs.declared.Answer.the-variants.{Read}
 use Rattle.write.specs.File.{writesTree, writeAll}
+use Rattle.write.specs.declared.Options.{Options}
 use Rattle.claims.specs.Reading.{answer-says}
 use Rattle.claims.specs.Claims as claims
 use Rattle.claims_write.specs.Meaning.{PathsEnd}
 use Rattle.claims_write.specs.Spelled.{indexOf}
 use Rattle.claims_write.specs.Spelled as spelled
-use Rattle.claims_write.specs.Trees.{tree-is-meant}
+use Rattle.claims_write.specs.TreeBack.{written-tree-is-the-tables, tree-reads-back-node-by-node}
 use Rattle.claims_write.specs.Sizes.{treeAsked}
 use Rattle.claims_write.specs.Lengths.{offset-is, writes-tree-is, has-eoie-is}
 use Rattle.claims_write.specs.Answers as answers
@@ -95,6 +96,14 @@ answered : (c : Case) {sparse : Bool} {records paths : ℕ}
     ≡ Read (c .version) sparse (treeAsked (c .options)) records paths (pick (treeAsked (c .options)) (nodesIn (c .nodes)) 0)
 answered c {sparse} {records} {paths} = ap (λ (t : Bool). Read (c .version) sparse t records paths (pick t (nodesIn (c .nodes)) 0)) (writes-tree-is (c .options))
 
+-- TREE is given and asked for
+both-asked : (o : Options) → treeAsked o ≡ true → (o .tree ≡ true) × (o .cache ≡ true)
+both-asked o = by (o .tree) (o .cache)
+  where
+    by : (t c : Bool) → (t && c) ≡ true → (t ≡ true) × (c ≡ true)
+    by true c e = (refl, e)
+    by false c e = absurd (false≢true e)
+
 pub reads-back : ReadsBack writer reader
 reads-back =
     record {
@@ -104,12 +113,12 @@ reads-back =
         claims_write.reads-back (c .records) (c .paths) (c .nodes) (c .names) (c .options) (c .out) (c .version) (c .size) (x .done) (x .few) (ends c x) (c .records′) (c .paths′) (c .nodes′) (x .slices) (roomy c x) ∙ answered c,
       );
       written-reads-back = λ c x. claims_write.written-reads-back (c .records) (c .paths) (c .nodes) (c .names) (c .options) (c .out) (c .version) (c .size) (x .done) (x .few) (ends c x) (c .records′) (c .paths′) (c .nodes′) (x .slices) (roomy c x) (x .table);
-      tree-reads-back = λ c x e. claims_write.tree-reads-back (c .records) (c .paths) (c .nodes) (c .names) (c .options) (c .out) (c .version) (c .size) (x .done) (x .few) (ends c x) (c .records′) (c .paths′) (c .nodes′) (x .slices) (roomy c x) (writes-tree-is (c .options) ∙ e);
+      tree-reads-back = λ c x e. tree-reads-back-node-by-node (c .records) (c .paths) (c .nodes) (c .names) (c .options) (c .out) (c .version) (c .size) (x .done) (x .few) (ends c x) (c .records′) (c .paths′) (c .nodes′) (x .slices) (roomy c x) (both-asked (c .options) e .0) (both-asked (c .options) e .1);
       written-is-spelled = λ c x. (
         indexOf (c .records) (c .paths) (c .nodes) (c .names) (c .options),
         spelled.written-is-spelled (c .records) (c .paths) (c .nodes) (c .names) (c .options) (c .out) (c .version) (c .size) (x .done) (ends c x),
         means c x,
-        λ e. tree-is-meant (c .records) (c .paths) (c .nodes) (c .names) (c .options) (c .out) (c .version) (c .size) (x .done) (x .few) (writes-tree-is (c .options) ∙ e),
+        λ e. written-tree-is-the-tables (c .records) (c .paths) (c .nodes) (c .names) (c .options) (c .out) (c .version) (c .size) (x .done) (x .few) (ends c x) (c .records′) (c .paths′) (c .nodes′) (x .slices) (roomy c x) (both-asked (c .options) e .0) (both-asked (c .options) e .1),
       );
       eoie-is-found = λ c x e. eoie.eoie-is-found (c .records) (c .paths) (c .nodes) (c .names) (c .options) (c .out) (c .version) (c .size) (x .done) (has-eoie-is (c .records) (c .options) ∙ e) ∙ ap (λ (n : ℕ). Offset (fileAt n)) (offset-is (c .records) (c .paths));
     }

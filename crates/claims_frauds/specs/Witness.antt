@@ -18,7 +18,6 @@ use Rattle.entry.specs.Record.{recordsIn, recordOf, frontOf, restOf, fieldAt, l
 use Rattle.node.specs.Store.{wordAt, isPart, partOf, nameInside, nameAt}
 use Rattle.siblings.specs.Siblings.{anyIn, twin, repeats, siblingsDiffer}
 use Rattle.proper.specs.Proper.{parentFits, countFits, holdsNone, nameFits, climbs, nodeFits, childCount, kidsFit, allIn, isProper}
-use Rattle.proper.specs.Table.{proper-exactly}
 use Rattle.access.specs.Marked.{row, table, paths as store, page-sorted}
 use Rattle.grammar.specs.Entry.{Meaning, meaning, start, Entries}
 use Rattle.grammar.specs.Entry.NoNul.{empty, byte}
@@ -38,6 +37,7 @@ use Rattle.claims.specs.Example.{none-last}
 use Rattle.write.specs.declared.Options.{Options}
 use Rattle.claims_write.specs.Meaning.{keptFrom, WritableTable}
 use Rattle.claims_write.specs.Tree.{total}
+use Rattle.claims_write.specs.ProperTable.{proper-exactly-in-words}
 use Rattle.claims_write.specs.Sizes.{digitsWithin, fileSize}
 use Rattle.claims_write.specs.Answers.{PathsInside, MayBeWritten}
 use Rattle.claims_frauds.specs.Demands.{Readable, Case, LargeEnough}
@@ -215,7 +215,7 @@ hash-size = refl
 
 pub tree-may-be-written : MayBeWritten [] [] root [] with-tree
 unfolding total nulIn nulAt beAt wordAt isPart partOf nameInside nameAt anyIn twin repeats siblingsDiffer parentFits countFits holdsNone nameFits climbs nodeFits childCount kidsFit allIn isProper digitsWithin
-tree-may-be-written = record { inside = no-record; proper = λ e. proper-exactly depthLimit root [] .0 refl; limits = record { records = lit≤ tt; bytes = lit≤ tt } }
+tree-may-be-written = record { inside = no-record; proper = λ e. proper-exactly-in-words depthLimit root [] .0 refl; limits = record { records = lit≤ tt; bytes = lit≤ tt } }
 
 pub tree-size : fileSize idSize [] [] root [] with-tree ≡ 65
 unfolding total beAt wordAt isPart partOf nameInside nameAt digitsWithin

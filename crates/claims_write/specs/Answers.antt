@@ -23,6 +23,7 @@ use Rattle.write.specs.declared.Answer.{Answer}
 use Rattle.write.specs.declared.Answer.the-variants.{Done, PathOutside, NotProper, TooLarge, ShortOutput}
 use Rattle.write.specs.Entries.{faultOf, beforeAt, anyExtended, First, found, nowhere, firstFault, onFirst}
 use Rattle.write.specs.File.{versionOf, writesTree, treeFits, bodyBytes, fileBytes, Outcome, outcome, most, writeFile, writeAll}
+use Rattle.claims_write.specs.ProperTable.{ProperTable, proper-exactly-in-words}
 use Rattle.claims_write.specs.Sizes.{treeAsked, sizeBeforeEoie, fileSize}
 use Rattle.claims_write.specs.Lengths.{writes-tree-is, body-length, file-length}
 
@@ -45,7 +46,7 @@ pub record FirstOutside (rs ps : List ℕ) (i : ℕ) : Type 0 where
 
 -- "only if TREE is to be written"
 abbrev pub ProperIfAsked : List ℕ → List ℕ → Options → Type 0
-ProperIfAsked ns nm o = treeAsked o ≡ true → Proper depthLimit ns nm
+ProperIfAsked ns nm o = treeAsked o ≡ true → ProperTable depthLimit ns nm
 
 -- the largest number that the file's 32 bits can hold
 abbrev pub largest : ℕ
@@ -77,7 +78,7 @@ IsDone a = (version size : ℕ) × (a ≡ Done version size)
 
 pub data Says (rs ps ns nm : List ℕ) (o : Options) (out : List ℕ) : Answer → Type 0 where
   says-outside : {i : ℕ} → FirstOutside rs ps i → Says rs ps ns nm o out (PathOutside i)
-  says-not-proper : PathsInside rs ps → treeAsked o ≡ true → ¬ Proper depthLimit ns nm → Says rs ps ns nm o out NotProper
+  says-not-proper : PathsInside rs ps → treeAsked o ≡ true → ¬ ProperTable depthLimit ns nm → Says rs ps ns nm o out NotProper
   says-too-large : PathsInside rs ps → ProperIfAsked ns nm o → OverTheLimits rs ps ns nm o → Says rs ps ns nm o out TooLarge
   says-short : MayBeWritten rs ps ns nm o → length out < fileSize idSize rs ps ns nm o → Says rs ps ns nm o out (ShortOutput (fileSize idSize rs ps ns nm o))
   says-done : {version : ℕ} → MayBeWritten rs ps ns nm o → fileSize idSize rs ps ns nm o ≤ length out → Version rs version
@@ -167,7 +168,7 @@ module _ (rs : List ℕ) where
 module _ (ns nm : List ℕ) (o : Options) where
   data Fits : Bool → Type 0 where
     fits : ProperIfAsked ns nm o → Fits true
-    fits-not : treeAsked o ≡ true → ¬ Proper depthLimit ns nm → Fits false
+    fits-not : treeAsked o ≡ true → ¬ ProperTable depthLimit ns nm → Fits false
 
   fits? : Fits (treeFits depthLimit ns nm (writesTree o))
   unfolding treeFits
@@ -175,8 +176,12 @@ module _ (ns nm : List ℕ) (o : Options) where
     where
       by : (w : Bool) → treeAsked o ≡ w → (t : Bool) → isProper depthLimit ns nm ≡ t → Fits (pick w t true)
       by false e t f = fits (λ a. absurd (true≢false (sym a ∙ e)))
-      by true e true f = fits (λ a. proper-exactly depthLimit ns nm .0 f)
-      by true e false f = fits-not e (λ p. true≢false (sym (proper-exactly depthLimit ns nm .1 p) ∙ f))
+      by true e true f = fits (λ a. proper-exactly-in-words depthLimit ns nm .0 f)
+      by true e false f = fits-not e (λ p. true≢false (sym (proper-exactly-in-words depthLimit ns nm .1 p) ∙ f))
+
+  -- in the words of the test
+  tested : ProperIfAsked ns nm o → treeAsked o ≡ true → Proper depthLimit ns nm
+  tested p a = proper-exactly depthLimit ns nm .0 (proper-exactly-in-words depthLimit ns nm .1 (p a))
 
 -- ---- the answer
 
@@ -198,7 +203,7 @@ module _ (rs ps ns nm : List ℕ) (o : Options) (out : List ℕ) where
   answer-says = by (search-is rs ps) (fits? ns nm o) (less? most (recordsIn rs)) (less? most (length body)) (less? (length out) (length whole))
     where
       may : PathsInside rs ps → ProperIfAsked ns nm o → recordsIn rs ≤ most → length body ≤ most → MayBeWritten rs ps ns nm o
-      may x p q r = record { inside = x; proper = p; limits = record { records = omega arith; bytes = omega (arith, body-length rs ps ns nm o p) } }
+      may x p q r = record { inside = x; proper = p; limits = record { records = omega arith; bytes = omega (arith, body-length rs ps ns nm o (tested ns nm o p)) } }
 
       by : {f : First} {t a b c : Bool} → FirstIs rs ps (recordsIn rs) 0 f → Fits ns nm o t
           → Less most (recordsIn rs) a → Less most (length body) b → Less (length out) (length whole) c
@@ -206,13 +211,13 @@ module _ (rs ps ns nm : List ℕ) (o : Options) (out : List ℕ) where
       by (is-found x) p q r s = says-outside x
       by (is-nowhere x) (fits-not w p) q r s = says-not-proper (all-inside rs ps x) w p
       by (is-nowhere x) (fits p) (less q) r s = says-too-large (all-inside rs ps x) p (inl (omega arith))
-      by (is-nowhere x) (fits p) (not-less q) (less r) s = says-too-large (all-inside rs ps x) p (inr (omega (arith, body-length rs ps ns nm o p)))
+      by (is-nowhere x) (fits p) (not-less q) (less r) s = says-too-large (all-inside rs ps x) p (inr (omega (arith, body-length rs ps ns nm o (tested ns nm o p))))
       by (is-nowhere x) (fits p) (not-less q) (not-less r) (less s) =
-          subst (λ (n : ℕ). Says rs ps ns nm o out (ShortOutput n)) (sym (file-length rs ps ns nm o p))
-          (says-short (may (all-inside rs ps x) p q r) (omega (arith, file-length rs ps ns nm o p)))
+          subst (λ (n : ℕ). Says rs ps ns nm o out (ShortOutput n)) (sym (file-length rs ps ns nm o (tested ns nm o p)))
+          (says-short (may (all-inside rs ps x) p q r) (omega (arith, file-length rs ps ns nm o (tested ns nm o p))))
       by (is-nowhere x) (fits p) (not-less q) (not-less r) (not-less s) =
-          subst (λ (n : ℕ). Says rs ps ns nm o out (Done (versionOf rs) n)) (sym (file-length rs ps ns nm o p))
-          (says-done (may (all-inside rs ps x) p q r) (omega (arith, file-length rs ps ns nm o p)) (version-says rs))
+          subst (λ (n : ℕ). Says rs ps ns nm o out (Done (versionOf rs) n)) (sym (file-length rs ps ns nm o (tested ns nm o p)))
+          (says-done (may (all-inside rs ps x) p q r) (omega (arith, file-length rs ps ns nm o (tested ns nm o p))) (version-says rs))
 
   -- no two answers are said
   first-once : {i j : ℕ} → FirstOutside rs ps i → FirstOutside rs ps j → i ≡ j
@@ -286,10 +291,10 @@ module _ (rs ps ns nm : List ℕ) (o : Options) (out : List ℕ) where
       to : {i : ℕ} → Says rs ps ns nm o out (PathOutside i) → FirstOutside rs ps i
       to (says-outside x) = x
 
-  pub refusal-16-exactly : (writing .answer ≡ NotProper) ↔ (PathsInside rs ps × (treeAsked o ≡ true) × ¬ Proper depthLimit ns nm)
+  pub refusal-16-exactly : (writing .answer ≡ NotProper) ↔ (PathsInside rs ps × (treeAsked o ≡ true) × ¬ ProperTable depthLimit ns nm)
   refusal-16-exactly = ((λ e. to (told e)), (λ (q, w, p). gives (says-not-proper q w p)))
     where
-      to : Says rs ps ns nm o out NotProper → PathsInside rs ps × (treeAsked o ≡ true) × ¬ Proper depthLimit ns nm
+      to : Says rs ps ns nm o out NotProper → PathsInside rs ps × (treeAsked o ≡ true) × ¬ ProperTable depthLimit ns nm
       to (says-not-proper q w p) = (q, w, p)
 
   pub refusal-15-exactly : (writing .answer ≡ TooLarge) ↔ (PathsInside rs ps × ProperIfAsked ns nm o × OverTheLimits rs ps ns nm o)

@@ -6,6 +6,7 @@ use mathlib.Core.Path.{_≡_, refl, sym, ap, _∙_, subst}
 use mathlib.Core.Bool.{Bool, true, false}
 use mathlib.Core.List.{List, [], _∷_, _++_, append-nil}
 use mathlib.Core.Logic.{_⊎_, inl, inr, ⊎-elim}
+use mathlib.Core.Option as option
 use native.Mathlib.Omega.{arith}
 use lib.Dec.{eqb, lit≤}
 use lib.ListN.{length, getD, take, drop, length-append, length-drop}
@@ -32,8 +33,8 @@ use Rattle.proper.specs.Table.{Proper}
 use Rattle.claims_tree.specs.Shown.{ShowsTree, tree-length, rendered-is-shown}
 use Rattle.claims_write.specs.Tree.{hits, root, treeAt}
 use Rattle.claims_write.specs.Meaning.{PathsEnd}
-use Rattle.claims_write.specs.Spelled.{treeBody, treePlace, written, behindEntries, before, count, has, toc, written-parts, file-is}
-use Rattle.claims_write.specs.Trees.{treeWritten, proper, written-tree-is-spelled, written-tree-nodes}
+use Rattle.claims_write.specs.Spelled.{treeBody, treePlace, treeMeant, written, behindEntries, before, count, has, toc, written-parts, file-is}
+use Rattle.claims_write.specs.Trees.{treeWritten, proper, written-tree-is-spelled, tree-is-meant, written-tree-nodes}
 use Rattle.claims_write.specs.Claims.{bytes, reading, Roomy, tree-reads-back}
 use Rattle.claims_write.specs.Count.{walk, met-once, walk-inside, walk-length}
 use Rattle.claims_write.specs.SameTree.{SameNode, SameTree}
@@ -233,35 +234,54 @@ both : (o : Options) → o .tree ≡ true → o .cache ≡ true → writesTree o
 unfolding writesTree
 both o given wanted = ap (λ (t : Bool). pick t (o .cache) false) given ∙ wanted
 
--- ---- THE THEOREM
+-- ---- THE THEOREMS
 
 module _ (rs ps ns nm : List ℕ) (o : Options) (out : List ℕ) (version size : ℕ)
     (done : writeAll idSize sha1 depthLimit rs ps ns nm o out .answer ≡ Done version size) (few : length ns < 2 ^ 64) (ends : PathsEnd rs ps)
     (records′ paths′ nodes′ : List ℕ)
     (slices : Slices (bytes rs ps ns nm o out version size done few ends records′ paths′ nodes′) paths′ nodes′)
     (roomy : Roomy rs ps ns o records′ paths′ nodes′) where
-  pub tree-reads-back-node-by-node : o .tree ≡ true → o .cache ≡ true
-      → (at : ℕ → ℕ) × SameTree idSize ns nm (bytes rs ps ns nm o out version size done few ends records′ paths′ nodes′)
-      (reading rs ps ns nm o out version size done few ends records′ paths′ nodes′ .nodes) at
-  tree-reads-back-node-by-node given wanted =
-      let file : List ℕ = bytes rs ps ns nm o out version size done few ends records′ paths′ nodes′ in
+  abbrev file : List ℕ
+  file = bytes rs ps ns nm o out version size done few ends records′ paths′ nodes′
+
+  -- the tree that is written, as it is rendered into a store
+  abbrev stored : List ℕ
+  stored = treeBytes (treeWritten rs ps ns nm)
+
+  abbrev order-of : ℕ → ℕ
+  order-of j = getD (walk ns nm depthLimit 0) j 0
+
+  module _ (asked : writesTree o ≡ true) where
+    fits : Proper depthLimit ns nm
+    fits = proper rs ps ns nm o out version size done few asked
+
+    rendered : SameTree idSize ns nm file stored order-of
+    rendered =
+        let t : Tree = treeWritten rs ps ns nm in
+        let spelled : Node idSize (treePlace rs ps) (treeBody ns nm) t = written-tree-is-spelled rs ps ns nm o out version size done few asked in
+        let many : length stored ≡ nodesIn ns * 72 =
+        tree-length idSize (lit≤ tt) t spelled minusOne 0 ∙ ap (λ (k : ℕ). k * 72) (written-tree-nodes rs ps ns nm o out version size done few asked) in
+        let lies : Lies file (treePlace rs ps) (length file) (treeBody ns nm) =
+        subst (λ (f : List ℕ). Lies f (treePlace rs ps) (length f) (treeBody ns nm)) (sym (file-is rs ps ns nm o out version size done))
+        (body-lies rs ps ns nm o asked) in
+        let shown : ShowsTree file stored minusOne 0 t =
+        rendered-is-shown idSize (lit≤ tt) file (length file) (omega arith) (slices .file) t spelled lies (omega arith) in
+        shown-is-same idSize depthLimit ns nm (lit≤ tt) few fits file stored (treePlace rs ps) (omega arith) shown
+
+  -- the tree that the written file means is the table's
+  pub written-tree-is-the-tables : o .tree ≡ true → o .cache ≡ true → (t : Tree) × (treeMeant rs ps ns nm o ≡ option.some t) × ((at : ℕ → ℕ) × SameTree idSize ns nm file (treeBytes t) at)
+  written-tree-is-the-tables given wanted =
       let asked : writesTree o ≡ true = both o given wanted in
-      let fits : Proper depthLimit ns nm = proper rs ps ns nm o out version size done few asked in
-      let t : Tree = treeWritten rs ps ns nm in
-      let spelled : Node idSize (treePlace rs ps) (treeBody ns nm) t = written-tree-is-spelled rs ps ns nm o out version size done few asked in
-      let many : length (treeBytes t) ≡ nodesIn ns * 72 =
-      tree-length idSize (lit≤ tt) t spelled minusOne 0 ∙ ap (λ (k : ℕ). k * 72) (written-tree-nodes rs ps ns nm o out version size done few asked) in
-      let lies : Lies file (treePlace rs ps) (length file) (treeBody ns nm) =
-      subst (λ (f : List ℕ). Lies f (treePlace rs ps) (length f) (treeBody ns nm)) (sym (file-is rs ps ns nm o out version size done))
-      (body-lies rs ps ns nm o asked) in
-      let shown : ShowsTree file (treeBytes t) minusOne 0 t =
-      rendered-is-shown idSize (lit≤ tt) file (length file) (omega arith) (slices .file) t spelled lies (omega arith) in
-      let same : SameTree idSize ns nm file (treeBytes t) (λ j. getD (walk ns nm depthLimit 0) j 0) =
-      shown-is-same idSize depthLimit ns nm (lit≤ tt) few fits file (treeBytes t) (treePlace rs ps) (omega arith) shown in
-      let left : reading rs ps ns nm o out version size done few ends records′ paths′ nodes′ .nodes ≡ filled nodes′ (treeBytes t) =
+      (treeWritten rs ps ns nm, tree-is-meant rs ps ns nm o out version size done few asked, (order-of, rendered asked))
+
+  -- and it reads back
+  pub tree-reads-back-node-by-node : o .tree ≡ true → o .cache ≡ true
+      → (at : ℕ → ℕ) × SameTree idSize ns nm file (reading rs ps ns nm o out version size done few ends records′ paths′ nodes′ .nodes) at
+  tree-reads-back-node-by-node given wanted =
+      let asked : writesTree o ≡ true = both o given wanted in
+      let left : reading rs ps ns nm o out version size done few ends records′ paths′ nodes′ .nodes ≡ filled nodes′ stored =
       tree-reads-back rs ps ns nm o out version size done few ends records′ paths′ nodes′ slices roomy asked in (
-        (λ j. getD (walk ns nm depthLimit 0) j 0),
-        subst (λ (m : List ℕ). SameTree idSize ns nm file m (λ j. getD (walk ns nm depthLimit 0) j 0)) (sym left)
-            (in-front idSize (lit≤ tt) ns nm file (treeBytes t) (drop (length (treeBytes t)) nodes′) (λ j. getD (walk ns nm depthLimit 0) j 0)
-            (fits .some) same),
+        order-of,
+        subst (λ (m : List ℕ). SameTree idSize ns nm file m order-of) (sym left)
+            (in-front idSize (lit≤ tt) ns nm file stored (drop (length stored) nodes′) order-of (fits asked .some) (rendered asked)),
       )
