@@ -1,6 +1,6 @@
--- The modules of claims_write. To be read: `Meaning`, and the theorems of `Spelled` (what is written is spelled), `Trees` (and so is the tree), `Eoie` (EOIE is found) and `Claims` (demand 2,
--- what is written reads back), and `Stored` (what was read in order is in file order). `Entries`, `Extensions`, `Tree`, `Count`, `Kept` and `Reading` lead there.
--- Of the writer alone: `Sizes` (how long a file is), `Answers` (what it answers, each exactly when) and `Asked` (what must be there); `Lengths` leads there.
+-- The modules of claims_write. To be read: `Meaning`, `Sizes`, `SameTree`, the words at the start of `Answers`, `Asked` and `ProperTable`, and the theorems of `Answers` (what the writer answers,
+-- and when), `Asked` (what must be there), `Spelled` (what is written is spelled), `Trees` (and so is the tree), `Eoie` (EOIE is found), `Claims` (demand 2, what is written reads back), `TreeBack` (and so
+-- does the tree), `Whole`, `Needed` (each premise is needed) and `Stored` (what was read in order is in file order). `Entries`, `Extensions`, `Tree`, `Count`, `Lengths`, `Forest`, `Kept` and `Reading` lead there.
 pub mod Meaning
 pub mod Entries
 pub mod Extensions
