@@ -109,10 +109,6 @@ module _ (s rs ps ns : List ℕ) (slices : Slices s ps ns) where
   gives : {o : Outcome} → SaysFile s rs ps ns o → reading .answer ≡ o .answer
   gives x = ap (λ (o : Outcome). o .answer) (only x)
 
-  -- whatever a reader leaves that meets its contract
-  pub contract-says : (a : Answer) (rs′ ps′ ns′ : List ℕ) → outcome a rs′ ps′ ns′ ≡ reading → SaysFile s rs ps ns (outcome a rs′ ps′ ns′)
-  contract-says a rs′ ps′ ns′ e = subst (SaysFile s rs ps ns) (sym e) says
-
   -- ---- 1 to 4
   pub refusal-1-exactly : (reading .answer ≡ answer.ShortFile) ↔ (length s < headerLength + idSize)
   refusal-1-exactly = ((λ q. to (told q)), (λ h. gives (says-short h)))

@@ -6,7 +6,7 @@ use mathlib.Core.List.{List, [], _∷_, flatten}
 use mathlib.Core.Logic.{⊎-elim}
 use native.Mathlib.Omega.{arith}
 use lib.Dec.{lit≤, lit<}
-use lib.ListN.{length, take, drop, replicate, length-append, take-append-drop}
+use lib.ListN.{length, take, drop, length-append, take-append-drop}
 use lib.Seq.{take-take}
 use Rattle.laws.specs.Pick.{pick}
 use Rattle.laws.specs.Tests.{lt-or-ge}
@@ -25,7 +25,6 @@ use Rattle.file.specs.Read as reading
 use Rattle.file.specs.declared.Answer.{Answer}
 use Rattle.file.specs.declared.Answer.the-variants.{Read}
 use Rattle.write.specs.File as writing
-use Rattle.write.specs.declared.Options.{Options}
 use Rattle.write.specs.declared.Answer.the-variants.{Done}
 use Rattle.claims_entries.specs.Rendering.{Bytes}
 use Rattle.claims_entries.specs.Fields.{bytes-left}
@@ -34,6 +33,7 @@ use Rattle.claims.specs.Claims.{IsRead, refusal-1-exactly, refusal-2-exactly}
 use Rattle.claims_frauds.specs.Demands.{Reader, Writer, Lookup, Digester, Demand3, Case, written, fileIn, ReadsBack, Finds, Demand2, CountsTheSteps, DigestsEachPrefix}
 use Rattle.claims_frauds.specs.Ours.{reader, digest}
 use Rattle.claims_frauds.specs.Witness as witness
+use Rattle.claims_frauds.specs.Witness.{case}
 
 -- ---- A READER THAT REFUSES ALL fails demand 3
 
@@ -80,27 +80,6 @@ lenient-fails = reads-unsigned-fails lenient (λ s rs ps ns other. by s rs ps ns
 
 -- ---- A WRITER THAT STORES NOTHING fails demand 2: one that leaves every output as it was, and says Done for 01's marked table and an output that does not happen to begin with "DIRC"
 
--- all that is written is the records
-abbrev plain : Options
-plain = record { tree = false; cache = false; eoie = false; sparse = false; unhashed = true }
-
--- the table, and for the reader room for three records and five path bytes
-abbrev case : List ℕ → ℕ → ℕ → Case
-case out version size =
-    record {
-      records = table;
-      paths = paths;
-      nodes = [];
-      names = [];
-      options = plain;
-      out = out;
-      version = version;
-      size = size;
-      records′ = replicate 288 0;
-      paths′ = replicate 5 0;
-      nodes′ = [];
-    }
-
 length-take-most : (n : ℕ) (l : List ℕ) → length (take n l) ≤ n
 length-take-most zero l = omega arith
 length-take-most (suc n) [] = omega arith
@@ -118,7 +97,7 @@ pub stores-nothing-fails : (write : Writer) → ((c : Case) → written write c 
     → written write (case out version size) .answer ≡ Done version size → ¬ ReadsBack write reader
 stores-nothing-fails write leaves out bytes long other version size done demand =
     not-read (fileIn write c) (c .records′) (c .paths′) (c .nodes′) slices begins
-    (_, _, _, _, _, _, demand .reads-back c (record { done = done; few = lit< tt; table = witness.writable; slices = slices; room = witness.roomy }))
+    (_, _, _, _, _, _, demand .reads-back c (record { done = done; few = lit< tt; table = witness.writable; slices = slices; room = witness.roomy out version size }) .2)
   where
     c : Case
     c = case out version size

@@ -8,7 +8,7 @@ use contract.Lifetimes.{Lfts}
 use denote.Ref.{now}
 use borrow.Fn.Kinds.{PK, RK, Out, Dens}
 use Rattle.format.specs.Format.{depthLimit, idSize}
-use Rattle.sha1.specs.Sha1.{sha1}
+use Rattle.sha1.specs.Sha1 as fips
 use Rattle.sha1.specs.Pieces.{digestAfter, fed, finished}
 use Rattle.sha1.specs.declared.Digest.{Digest}
 use Rattle.access.specs.Lookup.{lookupAt}
@@ -20,7 +20,7 @@ use Rattle.file.specs.declared.Answer.{Answer}
 use Rattle.write.specs.File as writing
 use Rattle.write.specs.declared.Options.{Options}
 use Rattle.write.specs.declared.Answer.{Answer as Wrote}
-use Rattle.sha1.proofs as sha1-code
+use Rattle.sha1.proofs as sha1
 use Rattle.access.proofs as access
 use Rattle.file.proofs as file
 use Rattle.write.proofs as write
@@ -49,7 +49,7 @@ pub data WriteToCall : (rs ps ns nm : List ℕ) → Options → (out : List ℕ)
   called : (c : Call write.write_to.Kinds.ps write.write_to.Kinds.r write.write_to.Reads.Learnt)
       → WriteToCall (now (c .args .0)) (now (c .args .1 .0)) (now (c .args .1 .1 .0)) (now (c .args .1 .1 .1 .0)) (c .args .1 .1 .1 .1 .0) (now (c .args .1 .1 .1 .1 .1 .0)) (c .answer) (c .left .1 .1 .1 .1 .1 .0)
 
-pub write-to-answers : {rs ps ns nm out out′ : List ℕ} {o : Options} {a : Wrote} → WriteToCall rs ps ns nm o out a out′ → writing.outcome a out′ ≡ writing.writeAll idSize sha1 depthLimit rs ps ns nm o out
+pub write-to-answers : {rs ps ns nm out out′ : List ℕ} {o : Options} {a : Wrote} → WriteToCall rs ps ns nm o out a out′ → writing.outcome a out′ ≡ writing.writeAll idSize fips.sha1 depthLimit rs ps ns nm o out
 write-to-answers (called c) = c .meets
 
 -- ---- `access::lookup` and `access::verify::verify_entries`, of a record table: their answers
@@ -71,25 +71,25 @@ verify-entries-answers (called c) = c .meets
 -- ---- the digest: a new one, one fed with a piece, what it finishes with, and the SHA-1 of bytes at once
 
 pub data DigestNewCall : Digest → Type 0 where
-  called : (c : Call sha1-code.Digest.new.Kinds.ps sha1-code.Digest.new.Kinds.r sha1-code.Digest.new.Reads.Learnt) → DigestNewCall (c .answer)
+  called : (c : Call sha1.Digest.new.Kinds.ps sha1.Digest.new.Kinds.r sha1.Digest.new.Reads.Learnt) → DigestNewCall (c .answer)
 
 pub digest-new-answers : {d : Digest} → DigestNewCall d → d ≡ digestAfter []
 digest-new-answers (called c) = c .meets
 
 pub data DigestFeedCall : Digest → (piece : List ℕ) → Digest → Type 0 where
-  called : (c : Call sha1-code.Digest.feed.Kinds.ps sha1-code.Digest.feed.Kinds.r sha1-code.Digest.feed.Reads.Learnt) → DigestFeedCall (c .args .0) (now (c .args .1 .0)) (c .answer)
+  called : (c : Call sha1.Digest.feed.Kinds.ps sha1.Digest.feed.Kinds.r sha1.Digest.feed.Reads.Learnt) → DigestFeedCall (c .args .0) (now (c .args .1 .0)) (c .answer)
 
 pub digest-feed-answers : {d d′ : Digest} {piece : List ℕ} → DigestFeedCall d piece d′ → d′ ≡ fed d piece
 digest-feed-answers (called c) = c .meets
 
 pub data DigestFinishCall : Digest → (out : List ℕ) → Type 0 where
-  called : (c : Call sha1-code.Digest.finish.Kinds.ps sha1-code.Digest.finish.Kinds.r sha1-code.Digest.finish.Reads.Learnt) → DigestFinishCall (c .args .0) (c .answer)
+  called : (c : Call sha1.Digest.finish.Kinds.ps sha1.Digest.finish.Kinds.r sha1.Digest.finish.Reads.Learnt) → DigestFinishCall (c .args .0) (c .answer)
 
 pub digest-finish-answers : {d : Digest} {out : List ℕ} → DigestFinishCall d out → out ≡ finished d
 digest-finish-answers (called c) = c .meets
 
 pub data Sha1OfCall : (bytes out : List ℕ) → Type 0 where
-  called : (c : Call sha1-code.sha1_of.Kinds.ps sha1-code.sha1_of.Kinds.r sha1-code.sha1_of.Reads.Learnt) → Sha1OfCall (now (c .args .0)) (c .answer)
+  called : (c : Call sha1.sha1_of.Kinds.ps sha1.sha1_of.Kinds.r sha1.sha1_of.Reads.Learnt) → Sha1OfCall (now (c .args .0)) (c .answer)
 
-pub sha1-of-answers : {bytes out : List ℕ} → Sha1OfCall bytes out → out ≡ sha1 bytes
+pub sha1-of-answers : {bytes out : List ℕ} → Sha1OfCall bytes out → out ≡ fips.sha1 bytes
 sha1-of-answers (called c) = c .meets
