@@ -10,6 +10,7 @@ use lib.Seq.{take-at, drop-at, drop-drop}
 use Rattle.laws.specs.Pick.{pick}
 use Rattle.wire.specs.BigEndian.{beAt, bytesOf, length-bytes, be-left, be-right, be-bytes}
 use Rattle.wire.specs.Places.{fileAt}
+use Rattle.format.specs.Format.{depthLimit, idSize}
 use Rattle.sha1.specs.Sha1.{sha1}
 use Rattle.entry.specs.Record.{recordsIn}
 use Rattle.extension.specs.Signatures as reader
@@ -123,7 +124,7 @@ module _ (w : List ℕ) (end : ℕ) (inside : end ≤ length w) where
 abbrev pub eoieOf : ℕ → List ℕ → List ℕ
 eoieOf offset heads = (extensionHead EOIE 24 ++ bytesOf 4 offset) ++ sha1 heads
 
-module _ (front r : List ℕ) (offset : ℕ) (es : List Ext) (offset-is : offset ≡ length front) (low : 12 ≤ length front) (high : length front < 2 ^ 32) (trailer : length r ≡ 20) (sized : Sized es) where
+module _ (front r : List ℕ) (offset : ℕ) (es : List Ext) (offset-is : offset ≡ length front) (low : 12 ≤ length front) (high : length front < 2 ^ 32) (trailer : length r ≡ idSize) (sized : Sized es) where
   -- a file: what stands before the extensions, they, EOIE and the trailer
   abbrev whole : List ℕ
   whole = front ++ (framedAll es ++ (eoieOf offset (headsOf es) ++ r))
@@ -145,7 +146,7 @@ module _ (front r : List ℕ) (offset : ℕ) (es : List Ext) (offset-is : offset
   long-enough : length whole ≡ length until + 52
   long-enough = ap length whole-is ∙ omega (arith, length-append until (eoieOf offset (headsOf es) ++ r), length-append (eoieOf offset (headsOf es)) r, length-eoie)
 
-  begins : beginning 20 whole ≡ length until
+  begins : beginning idSize whole ≡ length until
   begins = omega (arith, long-enough)
 
   at-eoie : whole ≡ until ++ (extensionHead EOIE 24 ++ (bytesOf 4 offset ++ (sha1 (headsOf es) ++ r)))
@@ -174,15 +175,15 @@ module _ (front r : List ℕ) (offset : ℕ) (es : List Ext) (offset-is : offset
       ∙ be-left 4 (bytesOf 4 offset) rest 0 (omega (arith, length-bytes 4 offset))
       ∙ be-bytes 4 offset (omega arith)
 
-  hash-is : take 20 (drop (length until + 12) whole) ≡ sha1 (headsOf es)
+  hash-is : take idSize (drop (length until + 12) whole) ≡ sha1 (headsOf es)
   hash-is =
       let h : List ℕ = extensionHead EOIE 24 in
       let rest : List ℕ = sha1 (headsOf es) ++ r in
       let l : length (h ++ bytesOf 4 offset) ≡ 12 = omega (arith, length-append h (bytesOf 4 offset), length-head EOIE 24 refl, length-bytes 4 offset) in
       let i : whole ≡ until ++ ((h ++ bytesOf 4 offset) ++ rest) = at-eoie ∙ ap (λ (s : List ℕ). until ++ s) (sym (append-assoc h (bytesOf 4 offset) rest)) in
-      ap (λ (s : List ℕ). take 20 (drop (length until + 12) s)) i
-      ∙ ap (λ (s : List ℕ). take 20 s) (sym (drop-drop 12 (length until) (until ++ ((h ++ bytesOf 4 offset) ++ rest))) ∙ ap (λ (s : List ℕ). drop 12 s) (drop-at until ((h ++ bytesOf 4 offset) ++ rest) (length until) refl) ∙ drop-at (h ++ bytesOf 4 offset) rest 12 l)
-      ∙ take-at (sha1 (headsOf es)) r 20 (length-sha1 (headsOf es))
+      ap (λ (s : List ℕ). take idSize (drop (length until + 12) s)) i
+      ∙ ap (λ (s : List ℕ). take idSize s) (sym (drop-drop 12 (length until) (until ++ ((h ++ bytesOf 4 offset) ++ rest))) ∙ ap (λ (s : List ℕ). drop 12 s) (drop-at until ((h ++ bytesOf 4 offset) ++ rest) (length until) refl) ∙ drop-at (h ++ bytesOf 4 offset) rest 12 l)
+      ∙ take-at (sha1 (headsOf es)) r idSize (length-sha1 (headsOf es))
 
   inside : length until ≤ length whole
   inside = omega (arith, long-enough)
@@ -193,10 +194,10 @@ module _ (front r : List ℕ) (offset : ℕ) (es : List Ext) (offset-is : offset
   heads : flatten (headersOf whole (foundFrom whole offset es)) ≡ headsOf es
   heads = heads-of whole (length until) inside sized front (eoieOf offset (headsOf es) ++ r) offset offset-is refl
 
-  true-told : 0 < length es → Tells 20 sha1 whole offset
+  true-told : 0 < length es → Tells idSize sha1 whole offset
   true-told some = go (foundFrom whole offset es) (found-length whole es offset) chained heads
     where
-      go : (fs : List Found) → length fs ≡ length es → Chain whole (length until) offset fs filled → flatten (headersOf whole fs) ≡ headsOf es → Tells 20 sha1 whole offset
+      go : (fs : List Found) → length fs ≡ length es → Chain whole (length until) offset fs filled → flatten (headersOf whole fs) ≡ headsOf es → Tells idSize sha1 whole offset
       go [] l c e = absurd (omega arith)
       go (f ∷ fs) l c e =
           record {
@@ -209,7 +210,7 @@ module _ (front r : List ℕ) (offset : ℕ) (es : List Ext) (offset-is : offset
             first = f;
             rest = fs;
             fills = subst (λ (j : ℕ). Chain whole j offset (f ∷ fs) filled) (sym begins) c;
-            hashed = ap sha1 e ∙ sym (ap (λ (j : ℕ). take 20 (drop (j + 12) whole)) begins ∙ hash-is);
+            hashed = ap sha1 e ∙ sym (ap (λ (j : ℕ). take idSize (drop (j + 12) whole)) begins ∙ hash-is);
           }
 
 -- ---- the extensions before EOIE
@@ -254,43 +255,43 @@ some-other n o tree e = by (o .eoie) (ltb 0 n) (writesTree o) (o .sparse) e
 
 module _ (rs ps ns nm : List ℕ) (o : Options) where
   abbrev before-extensions : List ℕ
-  before-extensions = headerOf (versionOf rs) (count rs ps ns nm o) ++ tableBytes 20 rs ps
+  before-extensions = headerOf (versionOf rs) (count rs ps ns nm o) ++ tableBytes idSize rs ps
 
   abbrev here : List Ext
   here = others (writesTree o) (treeBody ns nm) (o .sparse)
 
   abbrev last : List ℕ
-  last = trailerOf 20 sha1 (o .unhashed) (before rs ps ns nm o)
+  last = trailerOf idSize sha1 (o .unhashed) (before rs ps ns nm o)
 
-  with-eoie : hasEoie (recordsIn rs) o ≡ true → written rs ps ns nm o ≡ before-extensions ++ (framedAll here ++ (eoieOf (offsetOf 20 rs ps) (headsOf here) ++ last))
+  with-eoie : hasEoie (recordsIn rs) o ≡ true → written rs ps ns nm o ≡ before-extensions ++ (framedAll here ++ (eoieOf (offsetOf idSize rs ps) (headsOf here) ++ last))
   unfolding fileBytes fileOf closedOf bodyBytes bodyOf frontOf treeOf eoiePart
   with-eoie e =
       let x : List ℕ = extensionsOf (writesTree o) (pick (writesTree o) (treeBody ns nm) []) (o .sparse) in
       let heads : List ℕ = contents (writesTree o) (length (pick (writesTree o) (treeBody ns nm) [])) (o .sparse) in
-      let part : Bool → List ℕ = λ t. pick t (eoieOf (offsetOf 20 rs ps) heads) [] in
-      let r : List ℕ = trailerOf 20 sha1 (o .unhashed) ((before-extensions ++ x) ++ part (hasEoie (recordsIn rs) o)) in
+      let part : Bool → List ℕ = λ t. pick t (eoieOf (offsetOf idSize rs ps) heads) [] in
+      let r : List ℕ = trailerOf idSize sha1 (o .unhashed) ((before-extensions ++ x) ++ part (hasEoie (recordsIn rs) o)) in
       append-assoc (before-extensions ++ x) (part (hasEoie (recordsIn rs) o)) r
       ∙ append-assoc before-extensions x (part (hasEoie (recordsIn rs) o) ++ r)
       ∙ ap (λ (t : Bool). before-extensions ++ (x ++ (part t ++ r))) e
-      ∙ (λ j. before-extensions ++ (sym (framed-is (writesTree o) (treeBody ns nm) (o .sparse)) j ++ (eoieOf (offsetOf 20 rs ps) (sym (heads-are (writesTree o) (treeBody ns nm) (o .sparse)) j) ++ r)))
+      ∙ (λ j. before-extensions ++ (sym (framed-is (writesTree o) (treeBody ns nm) (o .sparse)) j ++ (eoieOf (offsetOf idSize rs ps) (sym (heads-are (writesTree o) (treeBody ns nm) (o .sparse)) j) ++ r)))
 
-  module _ (few : recordsIn rs ≤ most) (short : length (bodyBytes 20 64 rs ps ns nm o) ≤ most) where
-    offset-is : offsetOf 20 rs ps ≡ length before-extensions
-    offset-is = omega (arith, length-append (headerOf (versionOf rs) (count rs ps ns nm o)) (tableBytes 20 rs ps), length-header (versionOf rs) (count rs ps ns nm o))
+  module _ (few : recordsIn rs ≤ most) (short : length (bodyBytes idSize depthLimit rs ps ns nm o) ≤ most) where
+    offset-is : offsetOf idSize rs ps ≡ length before-extensions
+    offset-is = omega (arith, length-append (headerOf (versionOf rs) (count rs ps ns nm o)) (tableBytes idSize rs ps), length-header (versionOf rs) (count rs ps ns nm o))
 
     offset-small : length before-extensions ≤ most
     unfolding bodyBytes bodyOf frontOf
-    offset-small = omega (arith, length-append before-extensions (extensionsOf (writesTree o) (treeOf 20 64 ns nm (writesTree o)) (o .sparse)))
+    offset-small = omega (arith, length-append before-extensions (extensionsOf (writesTree o) (treeOf idSize depthLimit ns nm (writesTree o)) (o .sparse)))
 
-    found-in-written : hasEoie (recordsIn rs) o ≡ true → offsetIn 20 sha1 (written rs ps ns nm o) ≡ Offset (fileAt (offsetOf 20 rs ps))
+    found-in-written : hasEoie (recordsIn rs) o ≡ true → offsetIn idSize sha1 (written rs ps ns nm o) ≡ Offset (fileAt (offsetOf idSize rs ps))
     found-in-written e =
-        let t = true-told before-extensions last (offsetOf 20 rs ps) here offset-is (omega (arith, offset-is)) (omega (arith, offset-small)) (length-trailer (o .unhashed) (before rs ps ns nm o))
+        let t = true-told before-extensions last (offsetOf idSize rs ps) here offset-is (omega (arith, offset-is)) (omega (arith, offset-small)) (length-trailer (o .unhashed) (before rs ps ns nm o))
         (sized-others (writesTree o) (treeBody ns nm) (o .sparse) (tree-small rs ps ns nm o short)) (some-other (recordsIn rs) o (treeBody ns nm) e) in
-        ap (λ (s : List ℕ). offsetIn 20 sha1 s) (with-eoie e) ∙ tells-told 20 sha1 (before-extensions ++ (framedAll here ++ (eoieOf (offsetOf 20 rs ps) (headsOf here) ++ last))) (offsetOf 20 rs ps) t
+        ap (λ (s : List ℕ). offsetIn idSize sha1 s) (with-eoie e) ∙ tells-told idSize sha1 (before-extensions ++ (framedAll here ++ (eoieOf (offsetOf idSize rs ps) (headsOf here) ++ last))) (offsetOf idSize rs ps) t
 
 -- where the writer answers Done and EOIE is written, the EOIE reader finds it and tells where the extensions start
-pub eoie-is-found : (rs ps ns nm : List ℕ) (o : Options) (out : List ℕ) (version size : ℕ) (done : writeAll 20 sha1 64 rs ps ns nm o out .answer ≡ Done version size) → hasEoie (recordsIn rs) o ≡ true
-    → offsetIn 20 sha1 (fileIn rs ps ns nm o out version size done) ≡ Offset (fileAt (offsetOf 20 rs ps))
+pub eoie-is-found : (rs ps ns nm : List ℕ) (o : Options) (out : List ℕ) (version size : ℕ) (done : writeAll idSize sha1 depthLimit rs ps ns nm o out .answer ≡ Done version size) → hasEoie (recordsIn rs) o ≡ true
+    → offsetIn idSize sha1 (fileIn rs ps ns nm o out version size done) ≡ Offset (fileAt (offsetOf idSize rs ps))
 eoie-is-found rs ps ns nm o out version size done e =
     let d = done-says rs ps ns nm o out version size done in
-    ap (λ (s : List ℕ). offsetIn 20 sha1 s) (file-is rs ps ns nm o out version size done) ∙ found-in-written rs ps ns nm o (d .few) (d .short) e
+    ap (λ (s : List ℕ). offsetIn idSize sha1 s) (file-is rs ps ns nm o out version size done) ∙ found-in-written rs ps ns nm o (d .few) (d .short) e

@@ -15,6 +15,7 @@ use Rattle.wire.specs.Places.{pathAt}
 use Rattle.wire.specs.BigEndian.{beAt}
 use Rattle.wire.specs.declared.FileAt.{FileAt}
 use Rattle.wire.specs.declared.PathAt.{PathAt}
+use Rattle.format.specs.Format.{idSize}
 use Rattle.entry.specs.Mode.{dirAt}
 use Rattle.entry.specs.Record.{putRecord}
 use Rattle.measure.specs.Entry.{measureAt}
@@ -46,27 +47,27 @@ unfolding onVersion
 on-other v n b c d = rw (ne-eqb v 2 b, ne-eqb v 3 c, ne-eqb v 4 d)
 
 module _ (s : List ℕ) where
-  pub header-short : length s < 32 → ShortFile ≡ headerAt 20 s
+  pub header-short : length s < 32 → ShortFile ≡ headerAt idSize s
   unfolding headerAt
   header-short h = sym (rw (lt-ltb (length s) 32 h))
 
   module _ (a : 32 ≤ length s) (g : ℕ) (e : g ≡ beAt 4 s 0) where
-    pub header-unsigned : (g ≡ 1145655875 → ⊥) → NoSignature ≡ headerAt 20 s
+    pub header-unsigned : (g ≡ 1145655875 → ⊥) → NoSignature ≡ headerAt idSize s
     unfolding headerAt
     header-unsigned h = sym (rw (le-ltb (length s) 32 a, ← e, ne-eqb g 1145655875 h))
 
     module _ (h : g ≡ 1145655875) (v n : ℕ) (ev : v ≡ beAt 4 s 4) where
-      header-version : headerAt 20 s ≡ onVersion v (beAt 4 s 8)
+      header-version : headerAt idSize s ≡ onVersion v (beAt 4 s 8)
       unfolding headerAt
       header-version = rw (le-ltb (length s) 32 a, ← e, eq-eqb g 1145655875 h, ← ev)
 
-      pub header-known : 2 ≤ v → v < 5 → n ≡ beAt 4 s 8 → Opens v n ≡ headerAt 20 s
+      pub header-known : 2 ≤ v → v < 5 → n ≡ beAt 4 s 8 → Opens v n ≡ headerAt idSize s
       header-known b c en = sym (header-version ∙ rw (← en) (on-known v n b (omega arith)))
 
-      pub header-below : v < 2 → OtherVersion v ≡ headerAt 20 s
+      pub header-below : v < 2 → OtherVersion v ≡ headerAt idSize s
       header-below b = sym (header-version ∙ on-other v (beAt 4 s 8) (λ q. omega arith) (λ q. omega arith) (λ q. omega arith))
 
-      pub header-above : 4 < v → OtherVersion v ≡ headerAt 20 s
+      pub header-above : 4 < v → OtherVersion v ≡ headerAt idSize s
       header-above b = sym (header-version ∙ on-other v (beAt 4 s 8) (λ q. omega arith) (λ q. omega arith) (λ q. omega arith))
 
 -- ---- the bounds
@@ -133,14 +134,14 @@ unfolding marked
 mark-none s i sparse t e q = sym (rw (← e, q))
 
 -- ---- turns of the run: what is left to read, from here, comes to r
-module _ (s : List ℕ) (end : FileAt) (version n i : ℕ) (at : FileAt) (used : PathAt) (first : Bool) (prev : ℕ) (sparse : Bool) (rs ps : List ℕ) (r : Outcome) (inv : run 20 s end version n i at used first prev sparse rs ps ≡ r) where
+module _ (s : List ℕ) (end : FileAt) (version n i : ℕ) (at : FileAt) (used : PathAt) (first : Bool) (prev : ℕ) (sparse : Bool) (rs ps : List ℕ) (r : Outcome) (inv : run idSize s end version n i at used first prev sparse rs ps ≡ r) where
   pub run-done : n ≤ 0 → outcome (Done at used sparse) rs ps ≡ r
   unfolding run
   run-done h = let z : n ≡ 0 = omega arith in sym (rw z) ∙ inv
 
-  module _ (more : 0 < n) (m : Measured) (e : m ≡ measureAt 20 s (at .0) (end .0) version first prev) where
-    one-more : run 20 s end version (suc (n - 1)) i at used first prev sparse rs ps ≡ r
-    one-more = let e : suc (n - 1) ≡ n = omega arith in ap (λ (k : ℕ). run 20 s end version k i at used first prev sparse rs ps) e ∙ inv
+  module _ (more : 0 < n) (m : Measured) (e : m ≡ measureAt idSize s (at .0) (end .0) version first prev) where
+    one-more : run idSize s end version (suc (n - 1)) i at used first prev sparse rs ps ≡ r
+    one-more = let e : suc (n - 1) ≡ n = omega arith in ap (λ (k : ℕ). run idSize s end version k i at used first prev sparse rs ps) e ∙ inv
 
     pub run-short : m ≡ Short → outcome (NotSpelled i) rs ps ≡ r
     unfolding run
@@ -164,29 +165,29 @@ module _ (s : List ℕ) (end : FileAt) (version n i : ℕ) (at : FileAt) (used :
         run-long l = sym (rw (← e, q, lt-leb (length rs / 96) i slot, lt-ltb (length ps - used .0) (keep + len) l)) ∙ one-more
 
         module _ (l : keep + len ≤ length ps - used .0) where
-          pub run-next : (rs′ ps′ : List ℕ) (sparse′ : Bool) → rs′ ≡ putRecord 20 s (at .0) flags (used .0) (used .0 + (keep + len)) rs i → ps′ ≡ paste ps (used .0) (pathOf s ps keep (suffix .0) len prev (used .0)) (keep + len) → sparse′ ≡ marked s (at .0) sparse
-              → run 20 s end version (n - 1) (i + 1) next (pathAt (used .0 + (keep + len))) false (keep + len) sparse′ rs′ ps′ ≡ r
+          pub run-next : (rs′ ps′ : List ℕ) (sparse′ : Bool) → rs′ ≡ putRecord idSize s (at .0) flags (used .0) (used .0 + (keep + len)) rs i → ps′ ≡ paste ps (used .0) (pathOf s ps keep (suffix .0) len prev (used .0)) (keep + len) → sparse′ ≡ marked s (at .0) sparse
+              → run idSize s end version (n - 1) (i + 1) next (pathAt (used .0 + (keep + len))) false (keep + len) sparse′ rs′ ps′ ≡ r
           unfolding run
           run-next rs′ ps′ sparse′ a b c =
-              (λ k. run 20 s end version (n - 1) (i + 1) next (pathAt (used .0 + (keep + len))) false (keep + len) (c k) (a k) (b k))
+              (λ k. run idSize s end version (n - 1) (i + 1) next (pathAt (used .0 + (keep + len))) false (keep + len) (c k) (a k) (b k))
               ∙ sym (rw (← e, q, lt-leb (length rs / 96) i slot, le-ltb (length ps - used .0) (keep + len) l)) ∙ one-more
 
 -- what is known of an entry that was measured
-module _ (s : List ℕ) (end : FileAt) (version : ℕ) (at : FileAt) (used : ℕ) (first : Bool) (prev : ℕ) (ps : List ℕ) (m : Measured) (e : m ≡ measureAt 20 s (at .0) (end .0) version first prev) (flags keep : ℕ) (suffix : FileAt) (len : ℕ) (next : FileAt) (q : m ≡ Entry flags keep suffix len next) where
-  inside : Inside 20 s (at .0) (end .0) prev keep suffix len next
-  inside = measured-inside 20 s (at .0) (end .0) version first prev flags keep suffix len next m e q
+module _ (s : List ℕ) (end : FileAt) (version : ℕ) (at : FileAt) (used : ℕ) (first : Bool) (prev : ℕ) (ps : List ℕ) (m : Measured) (e : m ≡ measureAt idSize s (at .0) (end .0) version first prev) (flags keep : ℕ) (suffix : FileAt) (len : ℕ) (next : FileAt) (q : m ≡ Entry flags keep suffix len next) where
+  inside : Inside idSize s (at .0) (end .0) prev keep suffix len next
+  inside = measured-inside idSize s (at .0) (end .0) version first prev flags keep suffix len next m e q
 
   pub run-size : prev ≤ used → used ≤ length ps → keep + len ≤ length ps + length s
-  run-size a b = let h : Inside 20 s (at .0) (end .0) prev keep suffix len next = inside in omega arith
+  run-size a b = let h : Inside idSize s (at .0) (end .0) prev keep suffix len next = inside in omega arith
 
   pub run-room : prev ≤ used → used ≤ length ps → keep + len ≤ length ps - used → Room s ps keep (suffix .0) len prev used
   run-room a b l =
-      let k : Inside 20 s (at .0) (end .0) prev keep suffix len next = inside in
+      let k : Inside idSize s (at .0) (end .0) prev keep suffix len next = inside in
       record { text = omega arith; keeps = omega arith; before = a; paths = omega arith }
 
 -- ---- from what a caller says
 pub run-clamped : (s : List ℕ) (end : FileAt) (version n i : ℕ) (at : FileAt) (before : Before) (rs ps : List ℕ) (used prev : ℕ) (r : Outcome) → used ≡ least (before .used .0) (length ps) → prev ≡ least (before .length) used
-    → r ≡ run 20 s end version n i at (pathAt used) (before .first) prev false rs ps → r ≡ readEntries 20 s end version n i at before rs ps
+    → r ≡ run idSize s end version n i at (pathAt used) (before .first) prev false rs ps → r ≡ readEntries idSize s end version n i at before rs ps
 unfolding readEntries
 run-clamped s end version n i at before rs ps used prev r a b e = e ∙ rw (b, a)
 
@@ -196,7 +197,7 @@ pub record State (s : List ℕ) (end : FileAt) (version : ℕ) (rs₀ ps₀ : Li
   pub before : prev ≤ used .0
   pub records : length rs ≡ length rs₀
   pub paths : length ps ≡ length ps₀
-  pub rest : run 20 s end version left i at used first prev sparse rs ps ≡ r
+  pub rest : run idSize s end version left i at used first prev sparse rs ps ≡ r
 
 pub ruleset fronts = (header-short, header-unsigned, header-known, header-below, header-above, block-from, block-whole, most-is, least-four, least-other, least-right, least-left)
 

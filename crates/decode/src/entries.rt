@@ -5,7 +5,7 @@ ghost use mathlib.Core.Path.{_≡_};
 ghost use Prim.Native.Nat.{_+_, _-_, _*_, _≤_};
 ghost use lib.ListN.{length};
 ghost use lib.Seq.{paste};
-ghost use Rattle.format.specs.Format.{idSize};
+ghost use Rattle.format.specs.Format.{depthLimit, idSize};
 ghost use Rattle.entry.specs.Record.{putRecord};
 ghost use Rattle.decode.specs.Bounds.{blockSize, minEntrySize, maxEntries};
 ghost use Rattle.decode.specs.Entries.{Room, pathOf, marked, least, outcome, run, readEntries};
@@ -44,7 +44,7 @@ fn entries_block_size_in_bytes(size: usize, extensions: Extensions, id: usize) -
 
 // The least that an entry takes: the fixed part to a multiple of 8, or in version 4 with a strip of one byte and a NUL.
 fn min_entry_size_in_bytes(version: u32, id: usize) -> usize
-    requires { ⌜ id ≤ 64 ⌝ }
+    requires { ⌜ id ≤ depthLimit ⌝ }
     ensures { λ r. ⌜ r ≡ minEntrySize version id ⌝ }
 {
     let fixed = SANS_ID + id;

@@ -17,6 +17,7 @@ use Rattle.wire.specs.BigEndian.{beAt}
 use Rattle.wire.specs.Groups.{groupsIn, numberAt}
 use Rattle.wire.specs.declared.Number.{Number}
 use Rattle.wire.specs.declared.Number.the-variants.{Is, Cut, Over}
+use Rattle.format.specs.Format.{fixedExtendedSize, fixedSize, flagsPlace, idSize}
 use Rattle.entry.specs.Flags.{bit, extended, toMemory, extendedToMemory}
 use Rattle.entry.specs.declared.flags.Extended.{Extended}
 use Rattle.entry.specs.declared.flags.Extended.the-variants.{Kept, Unknown}
@@ -30,31 +31,31 @@ use Rattle.measure.specs.Entry.{onExtended, extendedAt, headWith, headAt
 
 -- ---- the bits after EXTENDED
 module _ (s : List ℕ) (i end kept field : ℕ) where
-  pub extended-none : end - i < 1 → Unfinished ≡ extendedAt 20 s i end kept field
+  pub extended-none : end - i < 1 → Unfinished ≡ extendedAt idSize s i end kept field
   unfolding extendedAt
   extended-none h = sym (rw (lt-ltb (end - i) 1 h))
 
   module _ (a : 1 ≤ end - i) where
     module _ (h : end - i < 2) (w : ℕ) (e : w ≡ getD s i 0 * 256) (t : Extended) (p : t ≡ extendedToMemory w) where
-      one-byte : extendedAt 20 s i end kept field ≡ onExtended t Spoiled (λ bits. Unfinished)
+      one-byte : extendedAt idSize s i end kept field ≡ onExtended t Spoiled (λ bits. Unfinished)
       unfolding extendedAt
       one-byte = rw (le-ltb (end - i) 1 a, lt-ltb (end - i) 2 h, ← e, ← p)
 
-      pub extended-open : (b : ℕ) → t ≡ Kept b → Unfinished ≡ extendedAt 20 s i end kept field
+      pub extended-open : (b : ℕ) → t ≡ Kept b → Unfinished ≡ extendedAt idSize s i end kept field
       extended-open b q = sym (one-byte ∙ rw q)
 
-      pub extended-shut : t ≡ Unknown → Spoiled ≡ extendedAt 20 s i end kept field
+      pub extended-shut : t ≡ Unknown → Spoiled ≡ extendedAt idSize s i end kept field
       extended-shut q = sym (one-byte ∙ rw q)
 
     module _ (h : 2 ≤ end - i) (w : ℕ) (e : w ≡ beAt 2 s i) (t : Extended) (p : t ≡ extendedToMemory w) where
-      whole-word : extendedAt 20 s i end kept field ≡ onExtended t Spoiled (λ bits. Fixed (kept + bits) 64 field)
+      whole-word : extendedAt idSize s i end kept field ≡ onExtended t Spoiled (λ bits. Fixed (kept + bits) fixedExtendedSize field)
       unfolding extendedAt
       whole-word = rw (le-ltb (end - i) 1 a, le-ltb (end - i) 2 h, ← e, ← p)
 
-      pub extended-good : (b : ℕ) → t ≡ Kept b → Fixed (kept + b) 64 field ≡ extendedAt 20 s i end kept field
+      pub extended-good : (b : ℕ) → t ≡ Kept b → Fixed (kept + b) fixedExtendedSize field ≡ extendedAt idSize s i end kept field
       extended-good b q = sym (whole-word ∙ rw q)
 
-      pub extended-bad : t ≡ Unknown → Spoiled ≡ extendedAt 20 s i end kept field
+      pub extended-bad : t ≡ Unknown → Spoiled ≡ extendedAt idSize s i end kept field
       extended-bad q = sym (whole-word ∙ rw q)
 
 -- the bits that are kept are 29 and 30
@@ -69,34 +70,34 @@ extended-small w b t e q = by (ltb 32767 w) (eqb (w % 8192) 0) refl (sym e ∙ q
 
 -- ---- the head
 module _ (s : List ℕ) (i end : ℕ) where
-  pub head-past : length s < end → Unfinished ≡ headAt 20 s i end
+  pub head-past : length s < end → Unfinished ≡ headAt idSize s i end
   unfolding headAt
   head-past h = sym (rw (lt-ltb (length s) end h))
 
   module _ (a : end ≤ length s) where
-    pub head-crossed : end < i → Unfinished ≡ headAt 20 s i end
+    pub head-crossed : end < i → Unfinished ≡ headAt idSize s i end
     unfolding headAt
     head-crossed h = sym (rw (le-ltb (length s) end a, lt-ltb end i h))
 
     module _ (b : i ≤ end) where
-      pub head-small : end - i < 62 → Unfinished ≡ headAt 20 s i end
+      pub head-small : end - i < fixedSize → Unfinished ≡ headAt idSize s i end
       unfolding headAt
-      head-small h = sym (rw (le-ltb (length s) end a, le-ltb end i b, lt-ltb (end - i) 62 h))
+      head-small h = sym (rw (le-ltb (length s) end a, le-ltb end i b, lt-ltb (end - i) fixedSize h))
 
-      module _ (c : 62 ≤ end - i) (bits : ℕ) (e : bits ≡ beAt 2 s (i + 60)) where
-        head-bits : headAt 20 s i end ≡ headWith 20 s i end bits
+      module _ (c : fixedSize ≤ end - i) (bits : ℕ) (e : bits ≡ beAt 2 s (i + flagsPlace)) where
+        head-bits : headAt idSize s i end ≡ headWith idSize s i end bits
         unfolding headAt
-        head-bits = rw (le-ltb (length s) end a, le-ltb end i b, le-ltb (end - i) 62 c, e)
+        head-bits = rw (le-ltb (length s) end a, le-ltb end i b, le-ltb (end - i) fixedSize c, e)
 
         module _ (flags : ℕ) (f : flags ≡ toMemory bits) (t : Bool) (g : t ≡ bit extended flags) where
-          head-flags : headAt 20 s i end ≡ pick t (extendedAt 20 s (i + 62) end flags (bits % 4096)) (Fixed flags 62 (bits % 4096))
+          head-flags : headAt idSize s i end ≡ pick t (extendedAt idSize s (i + fixedSize) end flags (bits % 4096)) (Fixed flags fixedSize (bits % 4096))
           unfolding headWith
           head-flags = head-bits ∙ rw (← f, ← g)
 
-          pub head-plain : t ≡ false → Fixed flags 62 (bits % 4096) ≡ headAt 20 s i end
+          pub head-plain : t ≡ false → Fixed flags fixedSize (bits % 4096) ≡ headAt idSize s i end
           head-plain x = sym (head-flags ∙ rw x)
 
-          pub head-extended : t ≡ true → (h : Head) → h ≡ extendedAt 20 s (i + 62) end flags (bits % 4096) → h ≡ headAt 20 s i end
+          pub head-extended : t ≡ true → (h : Head) → h ≡ extendedAt idSize s (i + fixedSize) end flags (bits % 4096) → h ≡ headAt idSize s i end
           head-extended x h k = k ∙ sym (head-flags ∙ rw x)
 
 -- ---- padding
@@ -236,21 +237,21 @@ module _ (s : List ℕ) (from end flags : ℕ) (first : Bool) (prev : ℕ) (n : 
     strip-kept keep r g h = h ∙ sym (rw (← e, q, ← f, g))
 
 -- ---- the whole
-module _ (s : List ℕ) (i end version : ℕ) (first : Bool) (prev : ℕ) (h : Head) (e : h ≡ headAt 20 s i end) where
-  pub measure-unfinished : h ≡ Unfinished → Short ≡ measureAt 20 s i end version first prev
+module _ (s : List ℕ) (i end version : ℕ) (first : Bool) (prev : ℕ) (h : Head) (e : h ≡ headAt idSize s i end) where
+  pub measure-unfinished : h ≡ Unfinished → Short ≡ measureAt idSize s i end version first prev
   unfolding measureAt
   measure-unfinished q = sym (rw (← e, q))
 
-  pub measure-spoiled : h ≡ Spoiled → Fault ≡ measureAt 20 s i end version first prev
+  pub measure-spoiled : h ≡ Spoiled → Fault ≡ measureAt idSize s i end version first prev
   unfolding measureAt
   measure-spoiled q = sym (rw (← e, q))
 
   module _ (flags size field : ℕ) (q : h ≡ Fixed flags size field) (r : Measured) where
-    pub measure-four : version ≡ 4 → r ≡ compressedAt s (i + size) end flags first prev → r ≡ measureAt 20 s i end version first prev
+    pub measure-four : version ≡ 4 → r ≡ compressedAt s (i + size) end flags first prev → r ≡ measureAt idSize s i end version first prev
     unfolding measureAt
     measure-four v k = k ∙ sym (rw (← e, q, eq-eqb version 4 v))
 
-    pub measure-other : (version ≡ 4 → ⊥) → r ≡ paddedAt s i end flags size field → r ≡ measureAt 20 s i end version first prev
+    pub measure-other : (version ≡ 4 → ⊥) → r ≡ paddedAt s i end flags size field → r ≡ measureAt idSize s i end version first prev
     unfolding measureAt
     measure-other v k = k ∙ sym (rw (← e, q, ne-eqb version 4 v))
 

@@ -192,19 +192,19 @@ module _ (ns : List ℕ) (i : ℕ) where
   unfolding nodeId
   no-id e h = sym (rw (le-ltb i (nodesIn ns) (omega arith)))
 
-  id-length : i < nodesIn ns → length (idAt idSize ns i) ≡ 20
+  id-length : i < nodesIn ns → length (idAt idSize ns i) ≡ idSize
   unfolding idAt
   id-length h = rw (lt-ltb i (nodesIn ns) h) (length-part idSize (i * nodeSize + idPlace) ns (omega arith))
 
-  pub id-long : {n : ℕ} {part : List ℕ} → part ≡ idAt idSize ns i → n ≡ nodesIn ns → i < n → 20 ≤ length part
+  pub id-long : {n : ℕ} {part : List ℕ} → part ≡ idAt idSize ns i → n ≡ nodesIn ns → i < n → idSize ≤ length part
   id-long p e h = omega (arith, ap length p, id-length (omega arith))
 
-  pub id-copied : (part d : List ℕ) {r : List ℕ} {n : ℕ} → r ≡ paste d 0 part 20 → length d ≡ 20 → part ≡ idAt idSize ns i → n ≡ nodesIn ns → i < n → r ≡ nodeId ns i
+  pub id-copied : (part d : List ℕ) {r : List ℕ} {n : ℕ} → r ≡ paste d 0 part idSize → length d ≡ idSize → part ≡ idAt idSize ns i → n ≡ nodesIn ns → i < n → r ≡ nodeId ns i
   unfolding nodeId
   id-copied part d q l p e h =
       let small : i < nodesIn ns = omega arith in
-      let there : length part ≡ 20 = ap length p ∙ id-length small in
-      q ∙ (λ k. take 20 part ++ drop-of-length-le d {i = 20} (omega arith) k) ∙ append-nil (take 20 part) ∙ take-all 20 part (omega arith) ∙ p ∙ sym (rw (lt-ltb i (nodesIn ns) small))
+      let there : length part ≡ idSize = ap length p ∙ id-length small in
+      q ∙ (λ k. take idSize part ++ drop-of-length-le d {i = idSize} (omega arith) k) ∙ append-nil (take idSize part) ∙ take-all idSize part (omega arith) ∙ p ∙ sym (rw (lt-ltb i (nodesIn ns) small))
 
 pub ruleset laws =
     (told-read, values-read, told-done, told-not-spelled, told-no-room, options-asked, told-written, told-write-outside, told-not-proper, told-too-large, told-short-output, told-at, told-absent, told-no-stage, told-outside, told-sorted, told-path-outside, told-not-after, told-offset, told-no-offset, told-pairs, told-no-table, told-pair, told-no-pair, not-told, is-told, told-most, told-record, told-stat, told-node, no-id, id-long, id-copied)

@@ -10,6 +10,7 @@ use lib.ListN.{length, take, drop, replicate, length-replicate, drop-of-length-l
 use lib.Seq.{paste, take-all}
 use borrow.Author.Tests.{lt-ltb, le-ltb, le-leb, lt-leb, eq-eqb, ne-eqb}
 use Rattle.laws.specs.Pick.{pick}
+use Rattle.format.specs.Format.{idSize}
 use Rattle.node.specs.declared.Node.{Node}
 use Rattle.node.specs.declared.Head.{Head}
 use Rattle.node.specs.declared.Head.the-variants.{Is, Nothing}
@@ -97,10 +98,10 @@ module _ (f : ℕ → ℕ → List ℕ → Out) (l at used : ℕ) (ns : List ℕ
     loop-stop s me x q = rw (← inv, kids-step f l at used ns more, ← e, q)
 
 -- the order of the children so far, with one child more
-pub so-far-next : (s : List ℕ) (end d me at have : ℕ) (ns ms : List ℕ) (a : Step) (n u : ℕ) (so more : Rising) → SoFar s ns me have so → (a, ms) ≡ nodeAt 20 s end d me at have ns → a ≡ Read n u
+pub so-far-next : (s : List ℕ) (end d me at have : ℕ) (ns ms : List ℕ) (a : Step) (n u : ℕ) (so more : Rising) → SoFar s ns me have so → (a, ms) ≡ nodeAt idSize s end d me at have ns → a ≡ Read n u
     → more ≡ risen s ms me so have → length ns < 256 ^ 8 → SoFar s ms me u more
 so-far-next s end d me at have ns ms a n u so more o e q r long =
-    rw r (so-far-more s ns ms me have u so o (node-grows 20 (lit≤ tt) s end d me at have ns ms a n u e q long (o .onward)))
+    rw r (so-far-more s ns ms me have u so o (node-grows idSize (lit≤ tt) s end d me at have ns ms a n u e q long (o .onward)))
 
 pub ruleset walks = (out-deep, out-full, out-bad, out-node, loop-end, loop-next, loop-stop, so-far-start, so-far-next)
 

@@ -11,7 +11,7 @@ use Rattle.wire.specs.BigEndian.{bytesOf}
 use Rattle.sums.specs.Cap.{cap}
 use Rattle.entry.specs.Record.{recordsIn}
 use Rattle.refusal.specs.Refusal.{path-outside, short-output, too-large, not-proper}
-use Rattle.format.specs.Format.{headerSize}
+use Rattle.format.specs.Format.{headerSize, idSize}
 use Rattle.tree_write.specs.Tree.{treeBytes}
 use Rattle.proper.specs.Proper.{isProper}
 use Rattle.write.specs.declared.Options.{Options}
@@ -127,7 +127,7 @@ fileBytes id hash limit rs ps ns nm o =
 pub record Counted (rs ps : List ℕ) (version count size : ℕ) : Type 0 where
   pub versioned : version ≡ versionOf rs
   pub counted : count ≡ countOf rs (recordsIn rs) 0
-  pub sized : size ≡ cap (headerSize + length (tableBytes 20 rs ps))
+  pub sized : size ≡ cap (headerSize + length (tableBytes idSize rs ps))
 
 -- ---- the answer
 

@@ -6,6 +6,7 @@ use mathlib.Core.List.{List, [], _∷_, _++_, append-assoc}
 use native.Mathlib.Omega.{arith}
 use lib.ListN.{length, length-append, length-replicate}
 use Rattle.wire.specs.BigEndian.{bytesOf, length-bytes}
+use Rattle.format.specs.Format.{idSize}
 use Rattle.sha1.specs.Sha1.{sha1}
 use Rattle.entry.specs.Record.{recordsIn}
 use Rattle.write.specs.declared.Options.{Options}
@@ -51,13 +52,13 @@ length-sparse true = length-head sparseSignature 0 refl
 length-sparse false = refl
 
 module _ (has : Bool) (offset : ℕ) (toc : List ℕ) where
-  pub length-eoie : has ≡ true → length (eoiePart 20 sha1 has offset toc) ≡ 32
+  pub length-eoie : has ≡ true → length (eoiePart idSize sha1 has offset toc) ≡ 32
   unfolding eoiePart
   length-eoie h =
       rw h
       (omega (arith, length-append (extensionHead eoieSignature 24 ++ bytesOf 4 offset) (sha1 toc), length-append (extensionHead eoieSignature 24) (bytesOf 4 offset), length-head eoieSignature 24 refl, length-bytes 4 offset, length-sha1 toc))
 
-pub length-trailer : (skips : Bool) (x : List ℕ) → length (trailerOf 20 sha1 skips x) ≡ 20
+pub length-trailer : (skips : Bool) (x : List ℕ) → length (trailerOf idSize sha1 skips x) ≡ idSize
 unfolding trailerOf
-length-trailer true x = length-replicate {A = ℕ} 20 0
+length-trailer true x = length-replicate {A = ℕ} idSize 0
 length-trailer false x = length-sha1 x

@@ -5,6 +5,7 @@ ghost use mathlib.Core.List.{_++_};
 ghost use lib.ListN.{length};
 ghost use Rattle.laws.specs.Put.{put};
 ghost use Rattle.wire.specs.BigEndian.{bytesOf};
+ghost use Rattle.format.specs.Format.{idSize};
 ghost use Rattle.entry.specs.Flags.{toStorage, extendedToStorage};
 ghost use Rattle.entry.specs.Record.{recordsIn, flagsAt};
 ghost use Rattle.write.specs.Entries.{faultOf, stated, fixedOf, frontAt, wholeOf, entryOf, recordBytes, beforeAt, tableBytes, keptOf, versionWith, sizeTable};
@@ -33,7 +34,7 @@ fn stated_length(len: usize) -> u16
 }
 
 fn fixed_size(flags: u32) -> usize
-    ensures { λ r. ⌜ r ≡ fixedOf 20 flags ⌝ }
+    ensures { λ r. ⌜ r ≡ fixedOf idSize flags ⌝ }
 {
     if entry::flags::is_extended(flags) {
         return format::FIXED_EXTENDED_SIZE;
@@ -58,7 +59,7 @@ fn record_fault(records: &[u8], paths: &[u8], i: usize) -> bool
 // How many bytes are written of record i.
 fn record_size(records: &[u8], paths: &[u8], i: usize) -> usize
     requires { ⌜ i < recordsIn (now records) ⌝ }
-    ensures { λ r. ⌜ r ≡ length (recordBytes 20 (now (records .entry)) (now (paths .entry)) (beforeAt (now (records .entry)) (now (paths .entry)) i) i) ⌝ }
+    ensures { λ r. ⌜ r ≡ length (recordBytes idSize (now (records .entry)) (now (paths .entry)) (beforeAt (now (records .entry)) (now (paths .entry)) i) i) ⌝ }
 {
     let flags = entry::flags_at(records, i);
     if entry::flags::is_removed(flags) {
@@ -96,7 +97,7 @@ fn version_with(flags: u32, version: u32) -> u32
 
 // Sizes the whole table, or finds the first record with a fault.
 pub fn size_entries(records: &[u8], paths: &[u8]) -> Sized
-    ensures { λ r. ⌜ r ≡ sizeTable 20 (now (records .entry)) (now (paths .entry)) ⌝ }
+    ensures { λ r. ⌜ r ≡ sizeTable idSize (now (records .entry)) (now (paths .entry)) ⌝ }
 {
     let n = entry::records_in(records);
     let mut version: u32 = 2;
@@ -123,14 +124,14 @@ pub fn size_entries(records: &[u8], paths: &[u8]) -> Sized
 
 // The bytes of record i before its path, of len bytes, with the 16 bits behind EXTENDED in any case. They are made in an array: the compiler knows that this
 // overlaps neither slice.
-fn head_of(records: &[u8], i: usize, flags: u32, len: usize) -> [u8; 64]
+fn head_of(records: &[u8], i: usize, flags: u32, len: usize) -> [u8; format::FIXED_EXTENDED_SIZE]
     requires { ⌜ i < recordsIn (now records) ⌝ }
-    ensures { λ r. ⌜ r ≡ (frontAt 20 (now (records .entry)) i ++ bytesOf 2 (toStorage flags + stated len)) ++ bytesOf 2 (extendedToStorage flags) ⌝ }
+    ensures { λ r. ⌜ r ≡ (frontAt idSize (now (records .entry)) i ++ bytesOf 2 (toStorage flags + stated len)) ++ bytesOf 2 (extendedToStorage flags) ⌝ }
 {
     let word = entry::flags::to_storage(flags) + stated_length(len);
     let more = entry::flags::extended_to_storage(flags);
     let base = i * entry::RECORD_SIZE;
-    let mut head = [0u8; 64];
+    let mut head = [0u8; format::FIXED_EXTENDED_SIZE];
     slices::copy_bytes(records, base, format::FLAGS_AT, &mut head, 0);
     wire::put16(&mut head, format::FLAGS_AT, word);
     wire::put16(&mut head, format::FIXED_SIZE, more);
@@ -140,8 +141,8 @@ fn head_of(records: &[u8], i: usize, flags: u32, len: usize) -> [u8; 64]
 // Writes the entry of record i at `at`, and answers where it ends: what stands before the path, the path, and 1 to 8 NULs.
 fn put_entry(records: &[u8], path: &[u8], i: usize, flags: u32, out: &mut [u8], at: usize) -> usize
     requires { ⌜ (i < recordsIn (now records)) × (flags ≡ flagsAt (now records) i) ⌝ }
-    requires { ⌜ at + wholeOf (fixedOf 20 flags) (length (now path)) ≤ length (now out) ⌝ }
-    ensures { λ r. ⌜ (r ≡ at + wholeOf (fixedOf 20 flags) (length (now (path .entry)))) × (now (out .exit) ≡ put (now (out .entry)) at (entryOf 20 (now (records .entry)) i (now (path .entry)))) ⌝ }
+    requires { ⌜ at + wholeOf (fixedOf idSize flags) (length (now path)) ≤ length (now out) ⌝ }
+    ensures { λ r. ⌜ (r ≡ at + wholeOf (fixedOf idSize flags) (length (now (path .entry)))) × (now (out .exit) ≡ put (now (out .entry)) at (entryOf idSize (now (records .entry)) i (now (path .entry)))) ⌝ }
 {
     let len = path.len();
     let fixed = fixed_size(flags);
@@ -158,8 +159,8 @@ fn put_entry(records: &[u8], path: &[u8], i: usize, flags: u32, out: &mut [u8], 
 // Writes what is written of record i at `at`, and answers where that ends.
 fn put_record(records: &[u8], paths: &[u8], i: usize, out: &mut [u8], at: usize) -> usize
     requires { ⌜ i < recordsIn (now records) ⌝ }
-    requires { ⌜ at + length (recordBytes 20 (now records) (now paths) (beforeAt (now records) (now paths) i) i) ≤ length (now out) ⌝ }
-    ensures { λ r. ⌜ (r ≡ at + length (recordBytes 20 (now (records .entry)) (now (paths .entry)) (beforeAt (now (records .entry)) (now (paths .entry)) i) i)) × (now (out .exit) ≡ put (now (out .entry)) at (recordBytes 20 (now (records .entry)) (now (paths .entry)) (beforeAt (now (records .entry)) (now (paths .entry)) i) i)) ⌝ }
+    requires { ⌜ at + length (recordBytes idSize (now records) (now paths) (beforeAt (now records) (now paths) i) i) ≤ length (now out) ⌝ }
+    ensures { λ r. ⌜ (r ≡ at + length (recordBytes idSize (now (records .entry)) (now (paths .entry)) (beforeAt (now (records .entry)) (now (paths .entry)) i) i)) × (now (out .exit) ≡ put (now (out .entry)) at (recordBytes idSize (now (records .entry)) (now (paths .entry)) (beforeAt (now (records .entry)) (now (paths .entry)) i) i)) ⌝ }
 {
     let flags = entry::flags_at(records, i);
     if entry::flags::is_removed(flags) {
@@ -171,8 +172,8 @@ fn put_record(records: &[u8], paths: &[u8], i: usize, out: &mut [u8], at: usize)
 
 // Writes every entry from `from` on, and answers where the last ends.
 pub fn put_entries(records: &[u8], paths: &[u8], out: &mut [u8], from: usize) -> usize
-    requires { ⌜ from + length (tableBytes 20 (now records) (now paths)) ≤ length (now out) ⌝ }
-    ensures { λ r. ⌜ (r ≡ from + length (tableBytes 20 (now (records .entry)) (now (paths .entry)))) × (now (out .exit) ≡ put (now (out .entry)) from (tableBytes 20 (now (records .entry)) (now (paths .entry)))) ⌝ }
+    requires { ⌜ from + length (tableBytes idSize (now records) (now paths)) ≤ length (now out) ⌝ }
+    ensures { λ r. ⌜ (r ≡ from + length (tableBytes idSize (now (records .entry)) (now (paths .entry)))) × (now (out .exit) ≡ put (now (out .entry)) from (tableBytes idSize (now (records .entry)) (now (paths .entry)))) ⌝ }
 {
     let n = entry::records_in(records);
     let mut at = from;

@@ -3,6 +3,7 @@ ghost use mathlib.Core.Path.{_≡_};
 ghost use Prim.Native.Nat.{_+_, _≤_};
 ghost use lib.ListN.{length, take};
 ghost use Rattle.laws.specs.Put.{put};
+ghost use Rattle.format.specs.Format.{idSize};
 ghost use Rattle.sha1.specs.Sha1.{sha1};
 ghost use Rattle.write.specs.File.{extensionHead, treeHead, sparsePart, contents, eoiePart, trailerOf};
 
@@ -62,8 +63,8 @@ pub fn put_eoie(
     out: &mut [u8],
     at: usize,
 ) -> usize
-    requires { ⌜ at + length (eoiePart 20 sha1 has offset (contents writes size sparse)) ≤ length (now out) ⌝ }
-    ensures { λ r. ⌜ (r ≡ at + length (eoiePart 20 sha1 has offset (contents writes size sparse))) × (now (out .exit) ≡ put (now (out .entry)) at (eoiePart 20 sha1 has offset (contents writes size sparse))) ⌝ }
+    requires { ⌜ at + length (eoiePart idSize sha1 has offset (contents writes size sparse)) ≤ length (now out) ⌝ }
+    ensures { λ r. ⌜ (r ≡ at + length (eoiePart idSize sha1 has offset (contents writes size sparse))) × (now (out .exit) ≡ put (now (out .entry)) at (eoiePart idSize sha1 has offset (contents writes size sparse))) ⌝ }
 {
     if has {
         let hash = contents_hash(writes, size, sparse);
@@ -78,8 +79,8 @@ pub fn put_eoie(
 
 // Writes the trailer behind the bytes before `at`: their hash, or zeros.
 pub fn put_trailer(skips: bool, out: &mut [u8], at: usize)
-    requires { ⌜ at + 20 ≤ length (now out) ⌝ }
-    ensures { λ _. ⌜ now (out .exit) ≡ put (now (out .entry)) at (trailerOf 20 sha1 skips (take at (now (out .entry)))) ⌝ }
+    requires { ⌜ at + idSize ≤ length (now out) ⌝ }
+    ensures { λ _. ⌜ now (out .exit) ≡ put (now (out .entry)) at (trailerOf idSize sha1 skips (take at (now (out .entry)))) ⌝ }
 {
     if skips {
         slices::clear(out, at, format::ID_SIZE);

@@ -4,6 +4,7 @@ ghost use Prim.Native.Nat.{_+_, _≤_};
 ghost use lib.ListN.{length, take};
 ghost use Rattle.laws.specs.Put.{put};
 ghost use Rattle.sums.specs.Cap.{cap};
+ghost use Rattle.format.specs.Format.{depthLimit, idSize};
 ghost use Rattle.sha1.specs.Sha1.{sha1};
 ghost use Rattle.entry.specs.Record.{recordsIn};
 ghost use Rattle.write.specs.File.{headerOf, versionOf, contents, frontOf, extensionsOf, bodyOf, offsetOf, closedOf, fileOf, endOf, headSize, endSize, most, eoiePart, treeOf, treeFits, writesTree, hasEoie, bodyBytes, fileBytes, Counted, outcome, writeFile, writeAll};
@@ -64,7 +65,7 @@ fn has_eoie(o: Options, records: usize, writes: bool) -> bool
 }
 
 fn tree_fits(nodes: &[u8], names: &[u8], writes: bool) -> bool
-    ensures { λ r. ⌜ r ≡ treeFits 64 (now (nodes .entry)) (now (names .entry)) writes ⌝ }
+    ensures { λ r. ⌜ r ≡ treeFits depthLimit (now (nodes .entry)) (now (names .entry)) writes ⌝ }
 {
     if writes {
         return proper::is_proper(nodes, names);
@@ -74,7 +75,7 @@ fn tree_fits(nodes: &[u8], names: &[u8], writes: bool) -> bool
 
 // How many bytes the tree has, none where TREE is not written.
 fn tree_length(nodes: &[u8], names: &[u8], writes: bool) -> usize
-    ensures { λ r. ⌜ r ≡ cap (length (treeOf 20 64 (now (nodes .entry)) (now (names .entry)) writes)) ⌝ }
+    ensures { λ r. ⌜ r ≡ cap (length (treeOf idSize depthLimit (now (nodes .entry)) (now (names .entry)) writes)) ⌝ }
 {
     if writes {
         return tree_write::tree_size(nodes, names);
@@ -84,9 +85,9 @@ fn tree_length(nodes: &[u8], names: &[u8], writes: bool) -> usize
 
 // Writes the tree, of so many bytes, and answers where it ends.
 fn put_tree(nodes: &[u8], names: &[u8], writes: bool, tree: u32, out: &mut [u8], at: usize) -> usize
-    requires { ⌜ tree ≡ length (treeOf 20 64 (now nodes) (now names) writes) ⌝ }
-    requires { ⌜ at + length (treeOf 20 64 (now nodes) (now names) writes) ≤ length (now out) ⌝ }
-    ensures { λ r. ⌜ (r ≡ at + length (treeOf 20 64 (now (nodes .entry)) (now (names .entry)) writes)) × (now (out .exit) ≡ put (now (out .entry)) at (treeOf 20 64 (now (nodes .entry)) (now (names .entry)) writes)) ⌝ }
+    requires { ⌜ tree ≡ length (treeOf idSize depthLimit (now nodes) (now names) writes) ⌝ }
+    requires { ⌜ at + length (treeOf idSize depthLimit (now nodes) (now names) writes) ≤ length (now out) ⌝ }
+    ensures { λ r. ⌜ (r ≡ at + length (treeOf idSize depthLimit (now (nodes .entry)) (now (names .entry)) writes)) × (now (out .exit) ≡ put (now (out .entry)) at (treeOf idSize depthLimit (now (nodes .entry)) (now (names .entry)) writes)) ⌝ }
 {
     let end = at + tree as usize;
     if writes {
@@ -108,8 +109,8 @@ fn put_header(version: u32, count: u32, out: &mut [u8])
 
 // Writes header and entries, and answers where they end.
 fn fill_front(records: &[u8], paths: &[u8], version: u32, count: u32, out: &mut [u8]) -> usize
-    requires { ⌜ length (frontOf 20 (now records) (now paths) version count) ≤ length (now out) ⌝ }
-    ensures { λ r. ⌜ (r ≡ offsetOf 20 (now (records .entry)) (now (paths .entry))) × (now (out .exit) ≡ put (now (out .entry)) 0 (frontOf 20 (now (records .entry)) (now (paths .entry)) version count)) ⌝ }
+    requires { ⌜ length (frontOf idSize (now records) (now paths) version count) ≤ length (now out) ⌝ }
+    ensures { λ r. ⌜ (r ≡ offsetOf idSize (now (records .entry)) (now (paths .entry))) × (now (out .exit) ≡ put (now (out .entry)) 0 (frontOf idSize (now (records .entry)) (now (paths .entry)) version count)) ⌝ }
 {
     put_header(version, count, out);
     entries::put_entries(records, paths, out, format::HEADER_SIZE)
@@ -125,9 +126,9 @@ fn fill_extensions(
     out: &mut [u8],
     at: usize,
 ) -> usize
-    requires { ⌜ tree ≡ length (treeOf 20 64 (now nodes) (now names) writes) ⌝ }
-    requires { ⌜ at + length (extensionsOf writes (treeOf 20 64 (now nodes) (now names) writes) sparse) ≤ length (now out) ⌝ }
-    ensures { λ r. ⌜ (r ≡ at + length (extensionsOf writes (treeOf 20 64 (now (nodes .entry)) (now (names .entry)) writes) sparse)) × (now (out .exit) ≡ put (now (out .entry)) at (extensionsOf writes (treeOf 20 64 (now (nodes .entry)) (now (names .entry)) writes) sparse)) ⌝ }
+    requires { ⌜ tree ≡ length (treeOf idSize depthLimit (now nodes) (now names) writes) ⌝ }
+    requires { ⌜ at + length (extensionsOf writes (treeOf idSize depthLimit (now nodes) (now names) writes) sparse) ≤ length (now out) ⌝ }
+    ensures { λ r. ⌜ (r ≡ at + length (extensionsOf writes (treeOf idSize depthLimit (now (nodes .entry)) (now (names .entry)) writes) sparse)) × (now (out .exit) ≡ put (now (out .entry)) at (extensionsOf writes (treeOf idSize depthLimit (now (nodes .entry)) (now (names .entry)) writes) sparse)) ⌝ }
 {
     let body = extension::put_tree_head(writes, tree, out, at);
     let end = put_tree(nodes, names, writes, tree, out, body);
@@ -145,8 +146,8 @@ fn fill_end(
     out: &mut [u8],
     at: usize,
 )
-    requires { ⌜ at + (length (eoiePart 20 sha1 has offset (contents writes tree sparse)) + 20) ≤ length (now out) ⌝ }
-    ensures { λ _. ⌜ now (out .exit) ≡ put (now (out .entry)) at (endOf 20 sha1 skips (take at (now (out .entry))) (eoiePart 20 sha1 has offset (contents writes tree sparse))) ⌝ }
+    requires { ⌜ at + (length (eoiePart idSize sha1 has offset (contents writes tree sparse)) + idSize) ≤ length (now out) ⌝ }
+    ensures { λ _. ⌜ now (out .exit) ≡ put (now (out .entry)) at (endOf idSize sha1 skips (take at (now (out .entry))) (eoiePart idSize sha1 has offset (contents writes tree sparse))) ⌝ }
 {
     let end = extension::put_eoie(has, offset, writes, tree, sparse, out, at);
     extension::put_trailer(skips, out, end);
@@ -166,10 +167,10 @@ fn fill(
     has: bool,
     out: &mut [u8],
 )
-    requires { ⌜ tree ≡ length (treeOf 20 64 (now nodes) (now names) writes) ⌝ }
-    requires { ⌜ offsetOf 20 (now records) (now paths) ≤ most ⌝ }
-    requires { ⌜ length (bodyOf 20 (now records) (now paths) version count writes (treeOf 20 64 (now nodes) (now names) writes) (o .sparse)) + endSize 20 has ≤ length (now out) ⌝ }
-    ensures { λ _. ⌜ now (out .exit) ≡ put (now (out .entry)) 0 (fileOf 20 sha1 (closedOf 20 sha1 (bodyOf 20 (now (records .entry)) (now (paths .entry)) version count writes (treeOf 20 64 (now (nodes .entry)) (now (names .entry)) writes) (o .sparse)) has (offsetOf 20 (now (records .entry)) (now (paths .entry))) (contents writes tree (o .sparse))) (o .unhashed)) ⌝ }
+    requires { ⌜ tree ≡ length (treeOf idSize depthLimit (now nodes) (now names) writes) ⌝ }
+    requires { ⌜ offsetOf idSize (now records) (now paths) ≤ most ⌝ }
+    requires { ⌜ length (bodyOf idSize (now records) (now paths) version count writes (treeOf idSize depthLimit (now nodes) (now names) writes) (o .sparse)) + endSize idSize has ≤ length (now out) ⌝ }
+    ensures { λ _. ⌜ now (out .exit) ≡ put (now (out .entry)) 0 (fileOf idSize sha1 (closedOf idSize sha1 (bodyOf idSize (now (records .entry)) (now (paths .entry)) version count writes (treeOf idSize depthLimit (now (nodes .entry)) (now (names .entry)) writes) (o .sparse)) has (offsetOf idSize (now (records .entry)) (now (paths .entry))) (contents writes tree (o .sparse))) (o .unhashed)) ⌝ }
 {
     let sparse = o.sparse;
     let skips = o.unhashed;
@@ -190,7 +191,7 @@ fn head_size(there: bool) -> usize
 
 // How many bytes EOIE, if it is written, and the trailer have.
 fn end_size(has: bool) -> usize
-    ensures { λ r. ⌜ r ≡ endSize 20 has ⌝ }
+    ensures { λ r. ⌜ r ≡ endSize idSize has ⌝ }
 {
     if has {
         return 52;
@@ -224,7 +225,7 @@ fn write_sized(
 ) -> Answer
     requires { ⌜ writes ≡ writesTree o ⌝ }
     requires { ⌜ Counted (now records) (now paths) version count size ⌝ }
-    ensures { λ r. ⌜ outcome r (now (out .exit)) ≡ writeFile (recordsIn (now (records .entry))) (versionOf (now (records .entry))) (bodyBytes 20 64 (now (records .entry)) (now (paths .entry)) (now (nodes .entry)) (now (names .entry)) o) (fileBytes 20 sha1 64 (now (records .entry)) (now (paths .entry)) (now (nodes .entry)) (now (names .entry)) o) (now (out .entry)) ⌝ }
+    ensures { λ r. ⌜ outcome r (now (out .exit)) ≡ writeFile (recordsIn (now (records .entry))) (versionOf (now (records .entry))) (bodyBytes idSize depthLimit (now (records .entry)) (now (paths .entry)) (now (nodes .entry)) (now (names .entry)) o) (fileBytes idSize sha1 depthLimit (now (records .entry)) (now (paths .entry)) (now (nodes .entry)) (now (names .entry)) o) (now (out .entry)) ⌝ }
 {
     let n = entry::records_in(records);
     let tree = tree_length(nodes, names, writes);
@@ -268,7 +269,7 @@ pub fn write_to(
     o: Options,
     out: &mut [u8],
 ) -> Answer
-    ensures { λ r. ⌜ outcome r (now (out .exit)) ≡ writeAll 20 sha1 64 (now (records .entry)) (now (paths .entry)) (now (nodes .entry)) (now (names .entry)) o (now (out .entry)) ⌝ }
+    ensures { λ r. ⌜ outcome r (now (out .exit)) ≡ writeAll idSize sha1 depthLimit (now (records .entry)) (now (paths .entry)) (now (nodes .entry)) (now (names .entry)) o (now (out .entry)) ⌝ }
 {
     let s = entries::size_entries(records, paths);
     match s {

@@ -2,6 +2,7 @@ use Prim.Native.Nat.{_-_}
 use mathlib.Core.Path.{_≡_}
 use Rattle.proper.specs.Proper.{allIn, nodeFits}
 use borrow.Author.Needs.{needs}
+use Rattle.format.specs.Format.{depthLimit}
 use Rattle.proper.proofs.Fits.{fits}
 use Rattle.proper.proofs.nodes_fit.Statement.{statement}
 use Rattle.proper.proofs.nodes_fit.Tie as tie
@@ -10,7 +11,7 @@ use Rattle.proper.proofs.nodes_fit.Lts as lts
 use Rattle.proper.proofs.node_fits.Reads as node-fits-reads
 
 abbrev Inv-loop : tie.InvT-loop
-Inv-loop nodes names n i₀ i = allIn (nodeFits 64 nodes names) (n - i) i ≡ allIn (nodeFits 64 nodes names) n 0
+Inv-loop nodes names n i₀ i = allIn (nodeFits depthLimit nodes names) (n - i) i ≡ allIn (nodeFits depthLimit nodes names) n 0
 
 abbrev μ-loop : tie.MeasureT-loop
 μ-loop nodes names n i₀ i = n - i

@@ -16,6 +16,7 @@ use Rattle.tree_write.proofs.node_size.Reads as node-size
 use Rattle.tree_write.proofs.node_size.Kinds as node-size-kinds
 use Rattle.tree_write.proofs.+node_size.Lts-node_size as node-size-lts
 use Rattle.sums.proofs.plus.Reads as plus-reads
+use Rattle.format.specs.Format.{idSize}
 use Rattle.tree_write.proofs.head_size.Reads as head-size-reads
 use Rattle.tree_write.proofs.runs.begin.Reads as begin-reads
 use Rattle.tree_write.proofs.runs.next.Reads as next-reads
@@ -37,7 +38,7 @@ abbrev node-size-Inv-loop : node-size-lts.InvT-loop
 node-size-Inv-loop nodes names walk me depth below size₀ heads₀ runs used last₀ left₀ size heads last left =
     Ready nodes names me last runs heads
     × ((size ≤ largest)
-    × (cap (size + length (each (nodeBytes 20 nodes names below) (kids nodes names me left last))) ≡ cap (length (nodeBytes 20 nodes names depth me))))
+    × (cap (size + length (each (nodeBytes idSize nodes names below) (kids nodes names me left last))) ≡ cap (length (nodeBytes idSize nodes names depth me))))
 
 abbrev node-size-μ-loop : node-size-lts.MeasureT-loop
 node-size-μ-loop nodes names walk me depth below size₀ heads₀ runs used last₀ left₀ size heads last left = left

@@ -3,13 +3,14 @@ use mathlib.Core.Path.{refl}
 use mathlib.Core.Bool.{false}
 use native.Mathlib.Omega.{arith}
 use borrow.Author.Needs.{needs}
+use Rattle.format.specs.Format.{idSize}
 use Rattle.decode.specs.Laws.{State, run-size, laws}
 use Rattle.decode.specs.Entries.{run}
 use Rattle.decode.proofs.entries.run_entries.Statement.{statement}
 use Rattle.decode.proofs.entries.run_entries.Tie as tie
 
 abbrev Inv-loop : tie.InvT-loop
-Inv-loop file end version count index begins known records₀ paths₀ slots at₀ used₀ first₀ prev₀ sparse₀ i₀ left₀ records paths at used first prev sparse i left = State file end version records₀ paths₀ (run 20 file end version count index at₀ used₀ begins known false records₀ paths₀) left i at used first prev sparse records paths
+Inv-loop file end version count index begins known records₀ paths₀ slots at₀ used₀ first₀ prev₀ sparse₀ i₀ left₀ records paths at used first prev sparse i left = State file end version records₀ paths₀ (run idSize file end version count index at₀ used₀ begins known false records₀ paths₀) left i at used first prev sparse records paths
 
 abbrev μ-loop : tie.MeasureT-loop
 μ-loop file end version count index begins known records₀ paths₀ slots at₀ used₀ first₀ prev₀ sparse₀ i₀ left₀ records paths at used first prev sparse i left = left
