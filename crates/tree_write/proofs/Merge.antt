@@ -18,7 +18,7 @@ use Rattle.tree_write.specs.declared.runs.Runs.{Runs}
 use Rattle.tree_write.specs.Order.{before, false-true, before-not, before-trans, before-total}
 use Rattle.tree_write.specs.Tree.{after, ahead, nextKid}
 use Rattle.tree_write.specs.Kids.{Cand, Best, next-best, after-before, before-after, cand-on}
-use Rattle.tree_write.specs.Runs.{goesOn, follow, Run, begins, goes, Headed, Covers, Ready, firstOf, HeadAt, Least, movedTo, Moved, Stepped}
+use Rattle.tree_write.specs.Runs.{runsHeld, goesOn, follow, Run, begins, goes, Headed, Covers, Ready, firstOf, HeadAt, Least, movedTo, Moved, Stepped}
 
 zero-or : (m : ℕ) → (m ≡ 0) ⊎ (m ≡ 0 → ⊥)
 zero-or zero = inl refl

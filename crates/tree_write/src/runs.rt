@@ -7,7 +7,7 @@ ghost use lib.ListN.{length};
 ghost use Rattle.format.specs.Format.{depthLimit};
 ghost use Rattle.walk_order.specs.Walk.{walks};
 ghost use Rattle.tree_write.specs.Tree.{nextKid};
-ghost use Rattle.tree_write.specs.Runs.{goesOn, follow, firstOf, Least, Moved, Stepped, Ready};
+ghost use Rattle.tree_write.specs.Runs.{runsHeld, goesOn, follow, firstOf, Least, Moved, Stepped, Ready};
 
 // The most runs that are kept; the children of a folder that has more are found by passes over the table.
 pub const MOST_RUNS: usize = 64;
