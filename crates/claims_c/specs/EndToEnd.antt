@@ -3,24 +3,24 @@
 -- Stores with a dash are as the call left them. Premises are named: `Slices` (the file is bytes, and no slice has 2^64 bytes or more) throughout; each other one stands where it is needed.
 use Prim.Native.Nat.{ℕ, _+_, _^_, _≤_, _<_}
 use mathlib.Core.Path.{_≡_, refl, sym, ap, _∙_, subst}
-use mathlib.Core.Bool.{false}
+use mathlib.Core.Bool.{true, false}
 use mathlib.Core.List.{List, [], _∷_}
 use mathlib.Core.Logic.{_↔_, _⊎_}
 use mathlib.Core.Option.{some}
 use native.Mathlib.Omega.{arith}
 use lib.ListN.{length, take, replicate, getElem?}
 use Rattle.laws.specs.Pick.{pick}
-use Rattle.refusal.specs.Refusal.{short-file, no-signature, other-version, bad-trailer, not-spelled, no-entry-room, not-filled, mandatory, too-deep, no-node-room, no-stage, not-after}
+use Rattle.refusal.specs.Refusal.{short-file, no-signature, other-version, bad-trailer, not-spelled, no-entry-room, not-filled, mandatory, too-deep, no-node-room, no-stage, path-outside, not-after, short-output, too-large, not-proper}
 use Rattle.format.specs.Format.{depthLimit, idSize}
-use Rattle.entry.specs.Flags.{keepFlags}
+use Rattle.entry.specs.Flags.{keepFlags, bit as isSet}
 use Rattle.entry.specs.Record.{recordsIn}
 use Rattle.node.specs.Store.{nodesIn}
 use Rattle.access.specs.Lookup.{highestStage}
 use Rattle.file.specs.Answer.{numberOf}
 use Rattle.file.specs.Read.{outcome}
 use Rattle.file.specs.declared.Answer.{Answer}
+use Rattle.write.specs.declared.Options.{Options}
 use Rattle.write.specs.Entries.{isGone}
-use Rattle.write.specs.File.{writesTree}
 use Rattle.grammar.specs.Number.{bigEndian}
 use Rattle.grammar.specs.Entry.{Meaning}
 use Rattle.grammar.specs.Tree.{Tree}
@@ -36,14 +36,20 @@ use Rattle.claims.specs.Reading as reader
 use Rattle.claims.specs.Claims as claims
 use Rattle.claims.specs.Claims.{TreeFits, hasTree, nodesOf, Behind, BehindIsTREE}
 use Rattle.claims_write.specs.Meaning.{keptOf, PathsEnd, WritableTable, NoneRemoved}
+use Rattle.claims_write.specs.Sizes.{treeAsked, fileSize}
+use Rattle.claims_write.specs.Lengths.{writes-tree-is}
+use Rattle.claims_write.specs.Answers as answers
+use Rattle.claims_write.specs.Answers.{PathsInside, FirstOutside, ProperIfAsked, OverTheLimits, MayBeWritten, Version}
+use Rattle.claims_write.specs.ProperTable.{ProperTable}
 use Rattle.claims_write.specs.Kept.{kept-here, kept-length}
 use Rattle.claims_write.specs.Claims.{Roomy, writable-ends}
 use Rattle.sparrowpivot.specs.Told.{bit}
 use Rattle.sparrowpivot.specs.Reading.{readValues}
 use Rattle.sparrowpivot.specs.Writing.{optionsFrom}
 use Rattle.claims_settled.specs.Exports.{ReadCall, WriteCall, LookupCall, CheckOrderCall, RecordCall, record-tells, RecordStatCall, record-stat-tells, RecordIdCall, record-id-tells, NodeCall, node-tells, NodeIdCall, node-id-tells}
-use Rattle.claims_c.specs.Terms.{value, recordsTold, nodesTold, Stands, stageOf, EntryIs, InOrder, FirstNotAfter, EntryHas, Row, rows, RowIs, parentWord, idTold, treeAsked}
+use Rattle.claims_c.specs.Terms.{value, recordsTold, nodesTold, Stands, stageOf, EntryIs, InOrder, FirstNotAfter, EntryHas, Row, rows, RowIs, parentWord, idTold}
 use Rattle.claims_c.specs.Numbers.{reading, number-told, values-told, left, code-small, zero-is-read, read-is-zero, by-number, by-number-and-value, one-value-told, nothing-told}
+use Rattle.claims_c.specs.Writing as writing
 use Rattle.claims_c.specs.Rows.{name-stands, node-told, node-id-told, no-node-told}
 use Rattle.claims_c.specs.Tables.{path-stands, record-told, stat-told, no-record-told, no-stat-told, no-id-told, tables-show, records-are, nodes-are, row-told, rows-told}
 use Rattle.claims_c.specs.Searching as searching
@@ -226,7 +232,51 @@ module _ {s rs ps ns values rs′ ps′ ns′ : List ℕ} {code : ℕ} (call : R
     pub lookup-tells-none-exactly : (value values₁ 0 ≡ 0) ↔ ((i : ℕ) → ¬ EntryHas (m .entries) key stage i)
     lookup-tells-none-exactly = searching.lookup-finds-none-exactly c (m .entries) (tables-show call slices returned m means .entries) (records-are call slices returned m means) order small
 
--- ---- 6. WHAT `sparrowpivot_write` WROTE, `sparrowpivot_read` READS BACK. A call that wrote returned 0 and told version and size, `values[0]` and `values[1]`; a second call reads the first `size`
+-- ---- 6. WHAT `sparrowpivot_write` RETURNS, AND WHEN; o is what the five low bits of the options ask for
+
+pub options-are-the-low-bits : (n : ℕ) → optionsFrom n ≡ record { tree = isSet 0 n; cache = isSet 1 n; eoie = isSet 2 n; sparse = isSet 3 n; unhashed = isSet 4 n }
+options-are-the-low-bits n = refl
+
+module _ {rs ps ns nm out values out′ : List ℕ} {options code : ℕ} (call : WriteCall rs ps ns nm options out code values out′) where
+  abbrev o : Options
+  o = optionsFrom options
+
+  -- 0 exactly if the paths of the records not marked REMOVE lie in their store, the node table is proper where TREE is to be written, the limits hold, and there is room
+  pub write-returns-0-exactly : (code ≡ 0) ↔ (MayBeWritten rs ps ns nm o × (fileSize idSize rs ps ns nm o ≤ length out))
+  write-returns-0-exactly =
+      let both = answers.done-exactly rs ps ns nm o out in
+      ((λ e. both .0 (_, _, writing.zero-is-done call e)), (λ x. writing.done-is-zero call (both .1 x)))
+
+  -- and then it tells version and size
+  pub write-tells-version-and-size : code ≡ 0 → Version rs (value values 0) × (value values 1 ≡ fileSize idSize rs ps ns nm o)
+  write-tells-version-and-size e = answers.done-answers rs ps ns nm o out (value values 0) (value values 1) (writing.zero-is-done call e)
+
+  -- 12 with i: record i is the first not marked REMOVE whose path lies outside
+  pub write-returns-12-exactly : (i : ℕ) → ((code ≡ path-outside) × (value values 0 ≡ i)) ↔ FirstOutside rs ps i
+  write-returns-12-exactly i = writing.by-number-and-value call (answers.refusal-12-exactly rs ps ns nm o out i) refl refl (λ w. refl)
+
+  -- 16: not so, and TREE is to be written and the node table is not proper
+  pub write-returns-16-exactly : (code ≡ not-proper) ↔ (PathsInside rs ps × (treeAsked o ≡ true) × ¬ ProperTable depthLimit ns nm)
+  write-returns-16-exactly = writing.by-number call (answers.refusal-16-exactly rs ps ns nm o out) refl (λ v w. refl)
+
+  -- 15: not so, and there are too many records or bytes
+  pub write-returns-15-exactly : (code ≡ too-large) ↔ (PathsInside rs ps × ProperIfAsked ns nm o × OverTheLimits rs ps ns nm o)
+  write-returns-15-exactly = writing.by-number call (answers.refusal-15-exactly rs ps ns nm o out) refl (λ v w. refl)
+
+  -- 14 with the size needed: not so, and the output is shorter
+  pub write-returns-14-exactly : (size : ℕ)
+      → ((code ≡ short-output) × (value values 0 ≡ size)) ↔ (MayBeWritten rs ps ns nm o × (size ≡ fileSize idSize rs ps ns nm o) × (length out < size))
+  write-returns-14-exactly size = writing.by-number-and-value call (answers.refusal-14-exactly rs ps ns nm o out size) refl refl (λ w. refl)
+
+  -- no other number is ever returned
+  pub write-returns-no-other : writing.OneOfFive code
+  write-returns-no-other = writing.code-is-one-of-five call
+
+  -- and a refusal leaves the output as it was
+  pub write-refusal-leaves-the-output : (code ≡ 0 → ⊥) → out′ ≡ out
+  write-refusal-leaves-the-output n = sym (writing.output call) ∙ answers.refused-leaves-the-output rs ps ns nm o out (λ d. n (writing.done-is-zero call d))
+
+-- ---- 7. WHAT `sparrowpivot_write` WROTE, `sparrowpivot_read` READS BACK. A call that wrote returned 0 and told version and size, `values[0]` and `values[1]`; a second call reads the first `size`
 -- bytes of its output, with stores that are large enough (`Roomy`)
 
 module _ {rs ps ns nm out values out′ : List ℕ} {options code : ℕ} (wrote : WriteCall rs ps ns nm options out code values out′) (returned : code ≡ 0) (few : length ns < 2 ^ 64)
@@ -235,11 +285,10 @@ module _ {rs ps ns nm out values out′ : List ℕ} {options code : ℕ} (wrote 
   -- it returns 0, with the version that was told, as many records as the table has that are not marked REMOVE, and a tree of as many nodes as the node table has exactly if one was given and
   -- asked for; of the paths is asked only that one whose length cannot be stated holds no NUL
   pub written-reads-back : PathsEnd rs ps
-      → (code₁ ≡ 0) × (value values₁ 0 ≡ value values 0) × (value values₁ 3 ≡ length (keptOf rs)) × (value values₁ 2 ≡ bit (treeAsked options))
-      × (value values₁ 5 ≡ pick (treeAsked options) (nodesIn ns) 0)
-  unfolding writesTree
+      → (code₁ ≡ 0) × (value values₁ 0 ≡ value values 0) × (value values₁ 3 ≡ length (keptOf rs)) × (value values₁ 2 ≡ bit (treeAsked (optionsFrom options)))
+      × (value values₁ 5 ≡ pick (treeAsked (optionsFrom options)) (nodesIn ns) 0)
   written-reads-back ends =
-      let (zero, told) = read-back-told wrote returned few ends records paths nodes slices roomy call in
+      let (zero, told) = rw (writes-tree-is (optionsFrom options)) at (read-back-told wrote returned few ends records paths nodes slices roomy call) in
       (zero, ap (λ (l : List ℕ). value l 0) told, ap (λ (l : List ℕ). value l 3) told, ap (λ (l : List ℕ). value l 2) told, ap (λ (l : List ℕ). value l 5) told)
 
   -- and of a table that loses nothing by being written (`WritableTable`), what is told of record j that was read is what is told of the j-th record that was written
