@@ -41,6 +41,7 @@ use Rattle.claims_write.specs.Lengths.{writes-tree-is}
 use Rattle.claims_write.specs.Answers as answers
 use Rattle.claims_write.specs.Answers.{PathsInside, FirstOutside, ProperIfAsked, OverTheLimits, MayBeWritten, Version}
 use Rattle.claims_write.specs.ProperTable.{ProperTable}
+use Rattle.claims_write.specs.SameTree.{SameTree}
 use Rattle.claims_write.specs.Kept.{kept-here, kept-length}
 use Rattle.claims_write.specs.Claims.{Roomy, writable-ends}
 use Rattle.sparrowpivot.specs.Told.{bit}
@@ -53,7 +54,7 @@ use Rattle.claims_c.specs.Writing as writing
 use Rattle.claims_c.specs.Rows.{name-stands, node-told, node-id-told, no-node-told}
 use Rattle.claims_c.specs.Tables.{path-stands, record-told, stat-told, no-record-told, no-stat-told, no-id-told, tables-show, records-are, nodes-are, row-told, rows-told}
 use Rattle.claims_c.specs.Searching as searching
-use Rattle.claims_c.specs.ReadBack.{read-back-told, record-back, stat-back, id-back}
+use Rattle.claims_c.specs.ReadBack.{read-back-told, tree-back, record-back, stat-back, id-back, count-back, subtrees-back, parent-back}
 
 -- ---- 1. WHAT `sparrowpivot_read` RETURNS, AND WHEN
 
@@ -290,6 +291,16 @@ module _ {rs ps ns nm out values out′ : List ℕ} {options code : ℕ} (wrote 
   written-reads-back ends =
       let (zero, told) = rw (writes-tree-is (optionsFrom options)) at (read-back-told wrote returned few ends records paths nodes slices roomy call) in
       (zero, ap (λ (l : List ℕ). value l 0) told, ap (λ (l : List ℕ). value l 3) told, ap (λ (l : List ℕ). value l 2) told, ap (λ (l : List ℕ). value l 5) told)
+
+  -- where a tree is given and asked for, the node store then holds the node table's tree: node j is node `at j` of the table, each once, with its name and id, siblings in byte order of name
+  -- (`SameTree`); and what `sparrowpivot_node` tells of the two is the same count, the same subtree count and the same parent
+  pub nodes-read-back : PathsEnd rs ps → isSet 0 options ≡ true → isSet 1 options ≡ true
+      → (at : ℕ → ℕ) × SameTree idSize ns nm (take (value values 1) out′) ns′ at
+      × ((j : ℕ) → j < nodesIn ns → (code₂ code₃ : ℕ) (values₂ values₃ : List ℕ) → NodeCall ns (at j) code₂ values₂ → NodeCall ns′ j code₃ values₃
+      → (value values₃ 2 ≡ value values₂ 2) × (value values₃ 3 ≡ value values₂ 3) × (0 < j → at (value values₃ 4) ≡ value values₂ 4))
+  nodes-read-back ends given wanted =
+      let (at, same) = tree-back wrote returned few ends records paths nodes slices roomy call given wanted in
+      (at, same, (λ j h code₂ code₃ values₂ values₃ b c. (count-back same j h b c, subtrees-back same j h b c, parent-back same j h b c)))
 
   -- and of a table that loses nothing by being written (`WritableTable`), what is told of record j that was read is what is told of the j-th record that was written
   module _ (fit : WritableTable rs ps) (i j : ℕ) (kept : getElem? (keptOf rs) j ≡ some i) where

@@ -2,6 +2,7 @@
 -- file is bytes, that no slice has 2^64 bytes or more, and room, premises with names.
 use Prim.Native.Nat.{ℕ, _+_, _^_, _<_}
 use mathlib.Core.Path.{_≡_, refl, sym, ap, _∙_, subst}
+use mathlib.Core.Bool.{true}
 use mathlib.Core.List.{List, [], _∷_}
 use mathlib.Core.Option.{some}
 use native.Mathlib.Omega.{arith}
@@ -16,7 +17,7 @@ use Rattle.entry.specs.Laws.{path-is}
 use Rattle.node.specs.Store.{nodesIn}
 use Rattle.grammar.specs.File.{Index, File}
 use Rattle.file.specs.Answer.{numberOf as numberRead}
-use Rattle.file.specs.Read.{readFile}
+use Rattle.file.specs.Read.{Outcome as ReadOutcome, readFile}
 use Rattle.file.specs.declared.Answer.{Answer as Read}
 use Rattle.file.specs.declared.Answer.the-variants as reading
 use Rattle.write.specs.declared.Answer.the-variants as answer
@@ -29,13 +30,16 @@ use Rattle.claims_write.specs.Meaning.{statOf, writtenFlags, meaningOf, keptOf,
 use Rattle.claims_write.specs.Spelled.{indexOf, fileIn, written-is-spelled}
 use Rattle.claims_write.specs.Answers.{done-exactly}
 use Rattle.claims_write.specs.Kept.{at-map, kept-is}
+use Rattle.claims_write.specs.SameTree.{SameTree}
+use Rattle.claims_write.specs.TreeBack.{tree-reads-back-node-by-node}
 use Rattle.claims_write.specs.Claims.{Roomy, reads-back, shows-written, written-reads-back}
 use Rattle.sparrowpivot.specs.Told.{Told, bit}
 use Rattle.sparrowpivot.specs.Reading.{readValues}
 use Rattle.sparrowpivot.specs.Writing.{optionsFrom}
-use Rattle.claims_settled.specs.Exports.{ReadCall, WriteCall, RecordCall, record-tells, RecordStatCall, record-stat-tells, RecordIdCall, record-id-tells}
+use Rattle.sparrowpivot.specs.Tables.{tellNode}
+use Rattle.claims_settled.specs.Exports.{ReadCall, WriteCall, RecordCall, record-tells, RecordStatCall, record-stat-tells, RecordIdCall, record-id-tells, NodeCall, node-tells}
 use Rattle.claims_c.specs.Terms.{value, recordsTold, Stands}
-use Rattle.claims_c.specs.Numbers.{number-told, values-told}
+use Rattle.claims_c.specs.Numbers.{number-told, values-told, left}
 use Rattle.claims_c.specs.Writing.{zero-is-done, output}
 use Rattle.claims_c.specs.Tables.{path-stands, record-told, stat-told, tables-show}
 
@@ -96,6 +100,15 @@ module _ {rs ps ns nm out values out′ : List ℕ} {options code : ℕ} (wrote 
         sym (shows-written rs ps ns nm asked out (value values 0) (value values 1) done few ends records′ paths′ nodes′ slices-w roomy j i e .flags)
         ∙ written-reads-back rs ps ns nm asked out (value values 0) (value values 1) done few ends records′ paths′ nodes′ slices-w roomy fit j i e .flags
 
+    -- ---- the tree, over the node store as the call left it
+    pub tree-back : {values₁ rs′ ps′ ns′ : List ℕ} {code₁ : ℕ} → ReadCall (take (value values 1) out′) records′ paths′ nodes′ code₁ values₁ rs′ ps′ ns′ → asked .tree ≡ true → asked .cache ≡ true
+        → (at : ℕ → ℕ) × SameTree idSize ns nm (take (value values 1) out′) ns′ at
+    tree-back {ns′ = ns′} call given wanted =
+        let (at, x) = tree-reads-back-node-by-node rs ps ns nm asked out (value values 0) (value values 1) done few ends records′ paths′ nodes′ slices-w roomy given wanted in
+        let y : SameTree idSize ns nm (take (value values 1) out′) (readFile idSize depthLimit (take (value values 1) out′) records′ paths′ nodes′ .nodes) at =
+        subst (λ (b : List ℕ). SameTree idSize ns nm b (readFile idSize depthLimit b records′ paths′ nodes′ .nodes) at) same-file x in
+        (at, subst (λ (u : ReadOutcome). SameTree idSize ns nm (take (value values 1) out′) (u .nodes) at) (left call) y)
+
     -- ---- calls of the record functions, over the table that was written and over the one that was read
     module _ (fit : WritableTable rs ps) (i j : ℕ) (kept : getElem? (keptOf rs) j ≡ some i) {values₁ rs′ ps′ ns′ : List ℕ} {code₁ : ℕ}
         (call : ReadCall (take (value values 1) out′) records′ paths′ nodes′ code₁ values₁ rs′ ps′ ns′) where
@@ -130,3 +143,19 @@ module _ {rs ps ns nm out values out′ : List ℕ} {options code : ℕ} (wrote 
 
       pub id-back : {out₂ out₃ : List ℕ} → RecordIdCall rs i out₂ → RecordIdCall (recordsTold values₁ rs′) j out₃ → out₃ ≡ out₂
       id-back b c = record-id-tells c ∙ entry-shown .id ∙ sym (record-id-tells b)
+
+-- what is told of a node
+node-value : {ns values : List ℕ} {i code : ℕ} → NodeCall ns i code values → (k : ℕ) → value values k ≡ value (tellNode ns i .values) k
+node-value c k = ap (λ (t : Told). value (t .values) k) (node-tells c)
+
+-- a node of a store that holds a table's tree, and the node of the table that it is: what is told of the one is told of the other
+module _ {ns nm s ms : List ℕ} {at : ℕ → ℕ} (same : SameTree idSize ns nm s ms at) (j : ℕ) (h : j < nodesIn ns) {code code′ : ℕ} {values values′ : List ℕ}
+    (b : NodeCall ns (at j) code values) (c : NodeCall ms j code′ values′) where
+  pub count-back : value values′ 2 ≡ value values 2
+  count-back = node-value c 2 ∙ same .nodes j h .count ∙ sym (node-value b 2)
+
+  pub subtrees-back : value values′ 3 ≡ value values 3
+  subtrees-back = node-value c 3 ∙ same .nodes j h .subtrees ∙ sym (node-value b 3)
+
+  pub parent-back : 0 < j → at (value values′ 4) ≡ value values 4
+  parent-back k = ap at (node-value c 4) ∙ same .parent j k h .1 ∙ sym (node-value b 4)
