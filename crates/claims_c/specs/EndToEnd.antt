@@ -60,7 +60,8 @@ use Rattle.claims_c.specs.ReadBack.{read-back-told, tree-back, record-ba
 
 module _ {s rs ps ns values rs′ ps′ ns′ : List ℕ} {code : ℕ} (call : ReadCall s rs ps ns code values rs′ ps′ ns′) (slices : Slices s ps ns) where
   -- given a good trailer, room for the entries and a tree that fits, 0 exactly if the grammar spells the file
-  pub read-returns-0-exactly-if-spelled : GoodTrailer s → RoomFor idSize (versionOf s) (space idSize s) (countOf s) rs ps → TreeFits s ns → (code ≡ 0) ↔ ((m : Index) × File idSize s m)
+  pub read-returns-0-exactly-if-spelled : GoodTrailer s → RoomFor idSize (versionOf s) (space idSize s) (countOf s) rs ps → TreeFits s ns
+      → (code ≡ 0) ↔ ((m : Index) × File idSize s m)
   read-returns-0-exactly-if-spelled good room fits =
       let both = claims.accepted-exactly-if-spelled s rs ps ns slices good room fits in
       ((λ e. both .0 (zero-is-read call e)), (λ x. read-is-zero call (both .1 x)))
@@ -81,7 +82,8 @@ module _ {s rs ps ns values rs′ ps′ ns′ : List ℕ} {code : ℕ} (call : R
 
   -- 3 with the version: it does, and the version is none of 2, 3, 4
   pub read-returns-3-exactly : (v : ℕ)
-      → ((code ≡ other-version) × (value values 0 ≡ v)) ↔ ((headerLength + idSize ≤ length s) × (take 4 s ≡ DIRC) × (¬ Supported (versionOf s)) × (v ≡ versionOf s))
+      → ((code ≡ other-version) × (value values 0 ≡ v))
+      ↔ ((headerLength + idSize ≤ length s) × (take 4 s ≡ DIRC) × (¬ Supported (versionOf s)) × (v ≡ versionOf s))
   read-returns-3-exactly v = by-number-and-value call (claims.refusal-3-exactly s rs ps ns slices v) (λ e. omega arith) refl refl refl
 
   -- 4: the header is good, and the trailer is neither zeros nor the SHA-1 of the rest
@@ -89,7 +91,8 @@ module _ {s rs ps ns values rs′ ps′ ns′ : List ℕ} {code : ℕ} (call : R
   read-returns-4-exactly = by-number call (claims.refusal-4-exactly s rs ps ns slices) (λ e. omega arith) refl (λ x. refl)
 
   -- 6 with k: the first k entries have room, and one more is spelled, which has none
-  pub read-returns-6-exactly : (k : ℕ) → ((code ≡ no-entry-room) × (value values 0 ≡ k)) ↔ (Opened s × LacksRoomAt idSize (versionOf s) (space idSize s) (countOf s) rs ps k)
+  pub read-returns-6-exactly : (k : ℕ)
+      → ((code ≡ no-entry-room) × (value values 0 ≡ k)) ↔ (Opened s × LacksRoomAt idSize (versionOf s) (space idSize s) (countOf s) rs ps k)
   read-returns-6-exactly k = by-number-and-value call (claims.refusal-6-exactly s rs ps ns slices k) (λ e. omega arith) refl refl refl
 
   -- 7 with a place: all entries are spelled and have room, and from that place on stand bytes that begin with no extension
@@ -121,7 +124,8 @@ module _ {s rs ps ns values rs′ ps′ ns′ : List ℕ} {code : ℕ} (call : R
   read-refusal-tells-one-value = one-value-told call
 
   -- and that one is 0 too but for 3, 5, 6, 7 and 8
-  pub read-refusal-that-names-nothing-tells-0 : (code ≡ 0 → ⊥) → (code ≡ other-version → ⊥) → (code ≡ not-spelled → ⊥) → (code ≡ no-entry-room → ⊥) → (code ≡ not-filled → ⊥)
+  pub read-refusal-that-names-nothing-tells-0 : (code ≡ 0 → ⊥) → (code ≡ other-version → ⊥) → (code ≡ not-spelled → ⊥) → (code ≡ no-entry-room → ⊥)
+      → (code ≡ not-filled → ⊥)
       → (code ≡ mandatory → ⊥) → value values 0 ≡ 0
   read-refusal-that-names-nothing-tells-0 = nothing-told call
 
@@ -140,20 +144,24 @@ module _ {s rs ps ns values rs′ ps′ ns′ : List ℕ} {code : ℕ} (call : R
 -- ---- AFTER A CALL THAT RETURNED 0, on a file that means m (by the sentence before there is such an m, and no other). A caller lends on the records and nodes that were told, of the stores as
 -- they were left, and the path store.
 
-module _ {s rs ps ns values rs′ ps′ ns′ : List ℕ} {code : ℕ} (call : ReadCall s rs ps ns code values rs′ ps′ ns′) (slices : Slices s ps ns) (returned : code ≡ 0)
+module _ {s rs ps ns values rs′ ps′ ns′ : List ℕ} {code : ℕ} (call : ReadCall s rs ps ns code values rs′ ps′ ns′) (slices : Slices s ps ns)
+    (returned : code ≡ 0)
     (m : Index) (means : File idSize s m) where
   -- ---- 3. THE RECORDS
 
   -- `sparrowpivot_record` tells entry i: mode, flags, stage, where its path starts and ends in the path store, that it lies there, that there is such a record, and the size of its file
-  pub record-tells-the-entry : {i code₁ : ℕ} {values₁ : List ℕ} {e : Meaning} → EntryIs (m .entries) i e → RecordCall (recordsTold values rs′) ps′ i code₁ values₁
-      → (start : ℕ) × (end : ℕ) × (code₁ ≡ 0) × (values₁ ≡ e .stat .mode ∷ e .flags ∷ stageOf e ∷ start ∷ end ∷ 1 ∷ 1 ∷ e .stat .size ∷ []) × Stands ps′ start end (e .path)
+  pub record-tells-the-entry : {i code₁ : ℕ} {values₁ : List ℕ} {e : Meaning} → EntryIs (m .entries) i e
+      → RecordCall (recordsTold values rs′) ps′ i code₁ values₁
+      → (start : ℕ) × (end : ℕ) × (code₁ ≡ 0) × (values₁ ≡ e .stat .mode ∷ e .flags ∷ stageOf e ∷ start ∷ end ∷ 1 ∷ 1 ∷ e .stat .size ∷ [])
+      × Stands ps′ start end (e .path)
   record-tells-the-entry {i} {e = e} q c =
       let x = tables-show call slices returned m means .entries i e q in
       let (a, b) = record-told x (record-tells c) in
       (x .start, x .start + length (e .path), a, b, path-stands x)
 
   -- `sparrowpivot_record_stat` tells the rest of its numbers
-  pub record-stat-tells-the-entry : {i code₁ : ℕ} {values₁ : List ℕ} {e : Meaning} → EntryIs (m .entries) i e → RecordStatCall (recordsTold values rs′) i code₁ values₁
+  pub record-stat-tells-the-entry : {i code₁ : ℕ} {values₁ : List ℕ} {e : Meaning} → EntryIs (m .entries) i e
+      → RecordStatCall (recordsTold values rs′) i code₁ values₁
       → (code₁ ≡ 0)
       × (values₁ ≡ e .stat .ctime ∷ e .stat .ctime-nanos ∷ e .stat .mtime ∷ e .stat .mtime-nanos ∷ e .stat .dev ∷ e .stat .ino ∷ e .stat .uid ∷ e .stat .gid ∷ [])
   record-stat-tells-the-entry {i} {e = e} q c = stat-told (tables-show call slices returned m means .entries i e q) (record-stat-tells c)
@@ -171,7 +179,8 @@ module _ {s rs ps ns values rs′ ps′ ns′ : List ℕ} {code : ℕ} (call : R
       → (code₁ ≡ 0) × (values₁ ≡ replicate 8 0)
   no-record-stat-behind-the-entries {i} h c = no-stat-told (recordsTold values rs′) i (omega (arith, records-are call slices returned m means)) (record-stat-tells c)
 
-  pub no-record-id-behind-the-entries : {i : ℕ} {out′ : List ℕ} → length (m .entries) ≤ i → RecordIdCall (recordsTold values rs′) i out′ → out′ ≡ replicate idSize 0
+  pub no-record-id-behind-the-entries : {i : ℕ} {out′ : List ℕ} → length (m .entries) ≤ i → RecordIdCall (recordsTold values rs′) i out′
+      → out′ ≡ replicate idSize 0
   no-record-id-behind-the-entries {i} h c = record-id-tells c ∙ no-id-told (recordsTold values rs′) i (omega (arith, records-are call slices returned m means))
 
   -- ---- 4. THE NODES, where the meaning has a tree: its rows are its nodes in file order, each with its parent's number (`rows`)
@@ -192,17 +201,20 @@ module _ {s rs ps ns values rs′ ps′ ns′ : List ℕ} {code : ℕ} (call : R
         (a, b, name-stands h x y)
 
     -- `sparrowpivot_node_id` tells its id, zeros where it is invalid
-    pub node-id-tells-the-row : {i : ℕ} {out′ : List ℕ} {r : Row} → RowIs (rows t) i r → NodeIdCall (nodesTold values ns′) i out′ → out′ ≡ idTold (r .count) (r .id)
+    pub node-id-tells-the-row : {i : ℕ} {out′ : List ℕ} {r : Row} → RowIs (rows t) i r → NodeIdCall (nodesTold values ns′) i out′
+        → out′ ≡ idTold (r .count) (r .id)
     node-id-tells-the-row {i} {r = r} q c = let (h, x, y) = row-told call slices returned m means t has i r q in node-id-tells c ∙ node-id-told h x y
 
   -- and behind the last node, and where the meaning has no tree, there is no node: all is 0
-  pub no-node-behind-the-tree : {i code₁ : ℕ} {values₁ : List ℕ} → nodesOf (m .tree) ≤ i → NodeCall (nodesTold values ns′) i code₁ values₁ → (code₁ ≡ 0) × (values₁ ≡ replicate 8 0)
+  pub no-node-behind-the-tree : {i code₁ : ℕ} {values₁ : List ℕ} → nodesOf (m .tree) ≤ i → NodeCall (nodesTold values ns′) i code₁ values₁
+      → (code₁ ≡ 0) × (values₁ ≡ replicate 8 0)
   no-node-behind-the-tree {i} h c = no-node-told (nodesTold values ns′) i (omega (arith, nodes-are call slices returned m means)) (node-tells c)
 
   -- ---- 5. ORDER AND LOOKUP, over these records
 
   -- `sparrowpivot_check_order` returns 0 exactly if the entries are strictly in order
-  pub check-order-returns-0-exactly : {code₁ : ℕ} {values₁ : List ℕ} → CheckOrderCall (recordsTold values rs′) ps′ code₁ values₁ → (code₁ ≡ 0) ↔ InOrder (m .entries)
+  pub check-order-returns-0-exactly : {code₁ : ℕ} {values₁ : List ℕ} → CheckOrderCall (recordsTold values rs′) ps′ code₁ values₁
+      → (code₁ ≡ 0) ↔ InOrder (m .entries)
   check-order-returns-0-exactly c = searching.order-0-exactly c (m .entries) (tables-show call slices returned m means .entries) (records-are call slices returned m means)
 
   -- 13 with i exactly when entry i is the first that does not come strictly after the one before
@@ -211,7 +223,8 @@ module _ {s rs ps ns values rs′ ps′ ns′ : List ℕ} {code : ℕ} (call : R
   check-order-returns-13-exactly c = searching.order-13-exactly c (m .entries) (tables-show call slices returned m means .entries) (records-are call slices returned m means)
 
   -- and nothing else: no path of what was read lies outside
-  pub check-order-returns-0-or-13 : {code₁ : ℕ} {values₁ : List ℕ} → CheckOrderCall (recordsTold values rs′) ps′ code₁ values₁ → (code₁ ≡ 0) ⊎ (code₁ ≡ not-after)
+  pub check-order-returns-0-or-13 : {code₁ : ℕ} {values₁ : List ℕ} → CheckOrderCall (recordsTold values rs′) ps′ code₁ values₁
+      → (code₁ ≡ 0) ⊎ (code₁ ≡ not-after)
   check-order-returns-0-or-13 c = searching.order-0-or-13 c (m .entries) (tables-show call slices returned m means .entries) (records-are call slices returned m means)
 
   -- `sparrowpivot_lookup` returns 11 exactly if a stage above 3 is looked for
@@ -235,7 +248,8 @@ module _ {s rs ps ns values rs′ ps′ ns′ : List ℕ} {code : ℕ} (call : R
 
 -- ---- 6. WHAT `sparrowpivot_write` RETURNS, AND WHEN; o is what the five low bits of the options ask for
 
-pub options-are-the-low-bits : (n : ℕ) → optionsFrom n ≡ record { tree = isSet 0 n; cache = isSet 1 n; eoie = isSet 2 n; sparse = isSet 3 n; unhashed = isSet 4 n }
+pub options-are-the-low-bits : (n : ℕ)
+    → optionsFrom n ≡ record { tree = isSet 0 n; cache = isSet 1 n; eoie = isSet 2 n; sparse = isSet 3 n; unhashed = isSet 4 n }
 options-are-the-low-bits n = refl
 
 module _ {rs ps ns nm out values out′ : List ℕ} {options code : ℕ} (call : WriteCall rs ps ns nm options out code values out′) where
@@ -280,7 +294,8 @@ module _ {rs ps ns nm out values out′ : List ℕ} {options code : ℕ} (call :
 -- ---- 7. WHAT `sparrowpivot_write` WROTE, `sparrowpivot_read` READS BACK. A call that wrote returned 0 and told version and size, `values[0]` and `values[1]`; a second call reads the first `size`
 -- bytes of its output, with stores that are large enough (`Roomy`)
 
-module _ {rs ps ns nm out values out′ : List ℕ} {options code : ℕ} (wrote : WriteCall rs ps ns nm options out code values out′) (returned : code ≡ 0) (few : length ns < 2 ^ 64)
+module _ {rs ps ns nm out values out′ : List ℕ} {options code : ℕ} (wrote : WriteCall rs ps ns nm options out code values out′) (returned : code ≡ 0)
+    (few : length ns < 2 ^ 64)
     {records paths nodes values₁ rs′ ps′ ns′ : List ℕ} {code₁ : ℕ} (call : ReadCall (take (value values 1) out′) records paths nodes code₁ values₁ rs′ ps′ ns′)
     (slices : Slices (take (value values 1) out′) paths nodes) (roomy : Roomy rs ps ns (optionsFrom options) records paths nodes) where
   -- it returns 0, with the version that was told, as many records as the table has that are not marked REMOVE, and a tree of as many nodes as the node table has exactly if one was given and
@@ -305,13 +320,16 @@ module _ {rs ps ns nm out values out′ : List ℕ} {options code : ℕ} (wrote 
   -- and of a table that loses nothing by being written (`WritableTable`), what is told of record j that was read is what is told of the j-th record that was written
   module _ (fit : WritableTable rs ps) (i j : ℕ) (kept : getElem? (keptOf rs) j ≡ some i) where
     -- mode, stage and size; the flags that are kept; and the same path, which lies in both path stores
-    pub record-reads-back : {code₂ code₃ : ℕ} {values₂ values₃ : List ℕ} → RecordCall rs ps i code₂ values₂ → RecordCall (recordsTold values₁ rs′) ps′ j code₃ values₃
-        → (start end : ℕ) × (path : List ℕ) × (values₃ ≡ value values₂ 0 ∷ keepFlags (value values₂ 1) ∷ value values₂ 2 ∷ start ∷ end ∷ 1 ∷ 1 ∷ value values₂ 7 ∷ [])
+    pub record-reads-back : {code₂ code₃ : ℕ} {values₂ values₃ : List ℕ} → RecordCall rs ps i code₂ values₂
+        → RecordCall (recordsTold values₁ rs′) ps′ j code₃ values₃
+        → (start end : ℕ) × (path : List ℕ)
+        × (values₃ ≡ value values₂ 0 ∷ keepFlags (value values₂ 1) ∷ value values₂ 2 ∷ start ∷ end ∷ 1 ∷ 1 ∷ value values₂ 7 ∷ [])
         × Stands ps (value values₂ 3) (value values₂ 4) path × Stands ps′ start end path
     record-reads-back b c = record-back wrote returned few (writable-ends rs ps fit) records paths nodes slices roomy fit i j kept call b c
 
     -- the eight other numbers
-    pub record-stat-reads-back : {code₂ code₃ : ℕ} {values₂ values₃ : List ℕ} → RecordStatCall rs i code₂ values₂ → RecordStatCall (recordsTold values₁ rs′) j code₃ values₃
+    pub record-stat-reads-back : {code₂ code₃ : ℕ} {values₂ values₃ : List ℕ} → RecordStatCall rs i code₂ values₂
+        → RecordStatCall (recordsTold values₁ rs′) j code₃ values₃
         → values₃ ≡ values₂
     record-stat-reads-back b c = stat-back wrote returned few (writable-ends rs ps fit) records paths nodes slices roomy fit i j kept call b c
 
@@ -320,7 +338,8 @@ module _ {rs ps ns nm out values out′ : List ℕ} {options code : ℕ} (wrote 
     record-id-reads-back b c = id-back wrote returned few (writable-ends rs ps fit) records paths nodes slices roomy fit i j kept call b c
 
 -- with none marked REMOVE every record is written, record i as the i-th
-pub unmarked-are-all-written : (rs : List ℕ) → NoneRemoved rs → (length (keptOf rs) ≡ recordsIn rs) × ((i : ℕ) → i < recordsIn rs → getElem? (keptOf rs) i ≡ some i)
+pub unmarked-are-all-written : (rs : List ℕ) → NoneRemoved rs
+    → (length (keptOf rs) ≡ recordsIn rs) × ((i : ℕ) → i < recordsIn rs → getElem? (keptOf rs) i ≡ some i)
 unmarked-are-all-written rs stays =
     let all : (i : ℕ) → 0 ≤ i → i < 0 + recordsIn rs → isGone rs i ≡ false = λ i a b. stays i (omega arith) in (
       kept-length rs (recordsIn rs) 0 all,

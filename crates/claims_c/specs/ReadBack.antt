@@ -15,7 +15,7 @@ use Rattle.entry.specs.Record.{recordsIn, modeAt, flagsAt, stageAt, startAt, en
 use Rattle.entry.specs.Stat.{statAt}
 use Rattle.entry.specs.Laws.{path-is}
 use Rattle.node.specs.Store.{nodesIn}
-use Rattle.grammar.specs.File.{Index, File}
+use Rattle.grammar.specs.File.{File}
 use Rattle.file.specs.Answer.{numberOf as numberRead}
 use Rattle.file.specs.Read.{Outcome as ReadOutcome, readFile}
 use Rattle.file.specs.declared.Answer.{Answer as Read}
@@ -70,7 +70,8 @@ module _ {rs ps ns nm out values out′ : List ℕ} {options code : ℕ} (wrote 
       let (low, high) = may .inside i (record { there = there; unmarked = k .stays }) in
       record { ahead = low; inside = high; bytes = path-is rs ps i there (startAt rs i) (endAt rs i) refl refl low high }
 
-  module _ (few : length ns < 2 ^ 64) (ends : PathsEnd rs ps) (records′ paths′ nodes′ : List ℕ) (slices : Slices (take (value values 1) out′) paths′ nodes′) (roomy : Roomy rs ps ns asked records′ paths′ nodes′) where
+  module _ (few : length ns < 2 ^ 64) (ends : PathsEnd rs ps) (records′ paths′ nodes′ : List ℕ)
+      (slices : Slices (take (value values 1) out′) paths′ nodes′) (roomy : Roomy rs ps ns asked records′ paths′ nodes′) where
     slices-w : Slices (fileIn rs ps ns nm asked out (value values 0) (value values 1) done) paths′ nodes′
     slices-w = subst (λ (b : List ℕ). Slices b paths′ nodes′) (sym same-file) slices
 
@@ -101,7 +102,8 @@ module _ {rs ps ns nm out values out′ : List ℕ} {options code : ℕ} (wrote 
         ∙ written-reads-back rs ps ns nm asked out (value values 0) (value values 1) done few ends records′ paths′ nodes′ slices-w roomy fit j i e .flags
 
     -- ---- the tree, over the node store as the call left it
-    pub tree-back : {values₁ rs′ ps′ ns′ : List ℕ} {code₁ : ℕ} → ReadCall (take (value values 1) out′) records′ paths′ nodes′ code₁ values₁ rs′ ps′ ns′ → asked .tree ≡ true → asked .cache ≡ true
+    pub tree-back : {values₁ rs′ ps′ ns′ : List ℕ} {code₁ : ℕ} → ReadCall (take (value values 1) out′) records′ paths′ nodes′ code₁ values₁ rs′ ps′ ns′
+        → asked .tree ≡ true → asked .cache ≡ true
         → (at : ℕ → ℕ) × SameTree idSize ns nm (take (value values 1) out′) ns′ at
     tree-back {ns′ = ns′} call given wanted =
         let (at, x) = tree-reads-back-node-by-node rs ps ns nm asked out (value values 0) (value values 1) done few ends records′ paths′ nodes′ slices-w roomy given wanted in
@@ -116,8 +118,10 @@ module _ {rs ps ns nm out values out′ : List ℕ} {options code : ℕ} (wrote 
       entry-shown =
           tables-show call slices (read-back-told call .0) (indexOf rs ps ns nm asked) (written-means ends) .entries j (meaningOf idSize rs ps i) (at-map (meaningOf idSize rs ps) (keptOf rs) j i kept)
 
-      pub record-back : {code₂ code₃ : ℕ} {values₂ values₃ : List ℕ} → RecordCall rs ps i code₂ values₂ → RecordCall (recordsTold values₁ rs′) ps′ j code₃ values₃
-          → (start end : ℕ) × (path : List ℕ) × (values₃ ≡ value values₂ 0 ∷ keepFlags (value values₂ 1) ∷ value values₂ 2 ∷ start ∷ end ∷ 1 ∷ 1 ∷ value values₂ 7 ∷ [])
+      pub record-back : {code₂ code₃ : ℕ} {values₂ values₃ : List ℕ} → RecordCall rs ps i code₂ values₂
+          → RecordCall (recordsTold values₁ rs′) ps′ j code₃ values₃
+          → (start end : ℕ) × (path : List ℕ)
+          × (values₃ ≡ value values₂ 0 ∷ keepFlags (value values₂ 1) ∷ value values₂ 2 ∷ start ∷ end ∷ 1 ∷ 1 ∷ value values₂ 7 ∷ [])
           × Stands ps (value values₂ 3) (value values₂ 4) path × Stands ps′ start end path
       unfolding statOf
       record-back b c =
@@ -137,7 +141,8 @@ module _ {rs ps ns nm out values out′ : List ℕ} {options code : ℕ} (wrote 
             path-stands x,
           )
 
-      pub stat-back : {code₂ code₃ : ℕ} {values₂ values₃ : List ℕ} → RecordStatCall rs i code₂ values₂ → RecordStatCall (recordsTold values₁ rs′) j code₃ values₃ → values₃ ≡ values₂
+      pub stat-back : {code₂ code₃ : ℕ} {values₂ values₃ : List ℕ} → RecordStatCall rs i code₂ values₂
+          → RecordStatCall (recordsTold values₁ rs′) j code₃ values₃ → values₃ ≡ values₂
       unfolding statOf
       stat-back b c = stat-told entry-shown (record-stat-tells c) .1 ∙ sym (ap (λ (t : Told). t .values) (record-stat-tells b))
 

@@ -3,7 +3,6 @@ use Prim.Native.Nat.{ℕ}
 use mathlib.Core.Path.{_≡_, refl, sym, ap, _∙_}
 use mathlib.Core.List.{List}
 use mathlib.Core.Logic.{_↔_, _⊎_, inl, inr}
-use native.Mathlib.Omega.{arith}
 use lib.Dec.{eqb}
 use Rattle.laws.specs.Pick.{pick}
 use Rattle.refusal.specs.Refusal.{path-outside, short-output, too-large, not-proper}
@@ -72,7 +71,8 @@ module _ {rs ps ns nm out values out′ : List ℕ} {options code : ℕ} (call :
   code-is-one-of-five = rw number-told (one-of-five (writing .answer))
 
   -- a number is returned exactly when its answer is given
-  pub by-number : {number : ℕ} {a : Answer} {P : Type 0} → ((writing .answer ≡ a) ↔ P) → numberOf a ≡ number → ((v w : ℕ) → answerTold number v w ≡ a) → (code ≡ number) ↔ P
+  pub by-number : {number : ℕ} {a : Answer} {P : Type 0} → ((writing .answer ≡ a) ↔ P) → numberOf a ≡ number → ((v w : ℕ) → answerTold number v w ≡ a)
+      → (code ≡ number) ↔ P
   by-number both n is = (
     (λ e. both .0 (given ∙ ap (λ (c : ℕ). answerTold c (value values 0) (value values 1)) e ∙ is (value values 0) (value values 1))),
     (λ p. number-told ∙ ap numberOf (both .1 p) ∙ n),
