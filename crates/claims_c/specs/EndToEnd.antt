@@ -1,6 +1,7 @@
--- END TO END FOR C: what a C program gets from the exported functions. A call enters by what Rattle itself reads out of the function's contract (`ReadCall` and the like, of `claims_settled`),
--- so each sentence is about the code. A meaning is the grammar's: `File idSize s m` says that the bytes s spell the index m. `values` are the eight numbers, `value values k` is `values[k]`.
--- Stores with a dash are as the call left them. Premises are named: `Slices` (the file is bytes, and no slice has 2^64 bytes or more) throughout; each other one stands where it is needed.
+-- END TO END FOR C: what a C program gets from the exported functions, sentence by sentence. A call enters by what Rattle itself reads out of the function's contract (`ReadCall` and the
+-- like, of `claims_settled`), so each sentence is about the code. A meaning is the grammar's: `File idSize s m` says that the bytes s spell the index m. `values` are the eight numbers,
+-- and `value values k` is `values[k]`; stores with a dash are as the call left them. `Terms` has the other words. Assumes that a file that is read is bytes and that no slice has 2^64 bytes or
+-- more, the premise `Slices`; each other premise stands, with a name, at the sentence that needs it.
 use Prim.Native.Nat.{ℕ, _+_, _^_, _≤_, _<_}
 use mathlib.Core.Path.{_≡_, refl, sym, ap, _∙_, subst}
 use mathlib.Core.Bool.{true, false}
@@ -27,6 +28,7 @@ use Rattle.grammar.specs.Tree.{Tree}
 use Rattle.grammar.specs.File.{Index, DIRC, headerLength, Supported, File, versionOf, countOf, space, GoodHeader}
 use Rattle.grammar.specs.Fault.{stray, refused, Faulty}
 use Rattle.claims_entries.specs.Rendering.{pathsBytes}
+use Rattle.claims_entries.specs.Shown.{EachShown}
 use Rattle.claims_entries.specs.Said.{StopsAt, RoomFor, LacksRoomAt}
 use Rattle.claims_tree.specs.Rendering.{countWord}
 use Rattle.claims_tree.specs.Said.{lent, GoesTooDeep, UsesUp}
@@ -125,8 +127,7 @@ module _ {s rs ps ns values rs′ ps′ ns′ : List ℕ} {code : ℕ} (call : R
 
   -- and that one is 0 too but for 3, 5, 6, 7 and 8
   pub read-refusal-that-names-nothing-tells-0 : (code ≡ 0 → ⊥) → (code ≡ other-version → ⊥) → (code ≡ not-spelled → ⊥) → (code ≡ no-entry-room → ⊥)
-      → (code ≡ not-filled → ⊥)
-      → (code ≡ mandatory → ⊥) → value values 0 ≡ 0
+      → (code ≡ not-filled → ⊥) → (code ≡ mandatory → ⊥) → value values 0 ≡ 0
   read-refusal-that-names-nothing-tells-0 = nothing-told call
 
   -- and whatever is returned, numbers and all three stores are those of one rule of 01's table, "When the desk says no", of which none is left out (`SaysFile` of claims)
@@ -145,8 +146,14 @@ module _ {s rs ps ns values rs′ ps′ ns′ : List ℕ} {code : ℕ} (call : R
 -- they were left, and the path store.
 
 module _ {s rs ps ns values rs′ ps′ ns′ : List ℕ} {code : ℕ} (call : ReadCall s rs ps ns code values rs′ ps′ ns′) (slices : Slices s ps ns)
-    (returned : code ≡ 0)
-    (m : Index) (means : File idSize s m) where
+    (returned : code ≡ 0) (m : Index) (means : File idSize s m) where
+  -- what the proofs cite: the records that were told show the entries, and are no more than these
+  shown : EachShown (recordsTold values rs′) ps′ (m .entries)
+  shown = tables-show call slices returned m means .entries
+
+  many : recordsIn (recordsTold values rs′) ≡ length (m .entries)
+  many = records-are call slices returned m means
+
   -- ---- 3. THE RECORDS
 
   -- `sparrowpivot_record` tells entry i: mode, flags, stage, where its path starts and ends in the path store, that it lies there, that there is such a record, and the size of its file
@@ -155,7 +162,7 @@ module _ {s rs ps ns values rs′ ps′ ns′ : List ℕ} {code : ℕ} (call : R
       → (start : ℕ) × (end : ℕ) × (code₁ ≡ 0) × (values₁ ≡ e .stat .mode ∷ e .flags ∷ stageOf e ∷ start ∷ end ∷ 1 ∷ 1 ∷ e .stat .size ∷ [])
       × Stands ps′ start end (e .path)
   record-tells-the-entry {i} {e = e} q c =
-      let x = tables-show call slices returned m means .entries i e q in
+      let x = shown i e q in
       let (a, b) = record-told x (record-tells c) in
       (x .start, x .start + length (e .path), a, b, path-stands x)
 
@@ -164,24 +171,24 @@ module _ {s rs ps ns values rs′ ps′ ns′ : List ℕ} {code : ℕ} (call : R
       → RecordStatCall (recordsTold values rs′) i code₁ values₁
       → (code₁ ≡ 0)
       × (values₁ ≡ e .stat .ctime ∷ e .stat .ctime-nanos ∷ e .stat .mtime ∷ e .stat .mtime-nanos ∷ e .stat .dev ∷ e .stat .ino ∷ e .stat .uid ∷ e .stat .gid ∷ [])
-  record-stat-tells-the-entry {i} {e = e} q c = stat-told (tables-show call slices returned m means .entries i e q) (record-stat-tells c)
+  record-stat-tells-the-entry {i} {e = e} q c = stat-told (shown i e q) (record-stat-tells c)
 
   -- `sparrowpivot_record_id` tells its id
   pub record-id-tells-the-entry : {i : ℕ} {out′ : List ℕ} {e : Meaning} → EntryIs (m .entries) i e → RecordIdCall (recordsTold values rs′) i out′ → out′ ≡ e .id
-  record-id-tells-the-entry {i} {e = e} q c = record-id-tells c ∙ tables-show call slices returned m means .entries i e q .id
+  record-id-tells-the-entry {i} {e = e} q c = record-id-tells c ∙ shown i e q .id
 
   -- and behind the last entry there is no record: all is 0
   pub no-record-behind-the-entries : {i code₁ : ℕ} {values₁ : List ℕ} → length (m .entries) ≤ i → RecordCall (recordsTold values rs′) ps′ i code₁ values₁
       → (code₁ ≡ 0) × (values₁ ≡ replicate 8 0)
-  no-record-behind-the-entries {i} h c = no-record-told (recordsTold values rs′) i (omega (arith, records-are call slices returned m means)) ps′ (record-tells c)
+  no-record-behind-the-entries {i} h c = no-record-told (recordsTold values rs′) i (omega (arith, many)) ps′ (record-tells c)
 
   pub no-record-stat-behind-the-entries : {i code₁ : ℕ} {values₁ : List ℕ} → length (m .entries) ≤ i → RecordStatCall (recordsTold values rs′) i code₁ values₁
       → (code₁ ≡ 0) × (values₁ ≡ replicate 8 0)
-  no-record-stat-behind-the-entries {i} h c = no-stat-told (recordsTold values rs′) i (omega (arith, records-are call slices returned m means)) (record-stat-tells c)
+  no-record-stat-behind-the-entries {i} h c = no-stat-told (recordsTold values rs′) i (omega (arith, many)) (record-stat-tells c)
 
   pub no-record-id-behind-the-entries : {i : ℕ} {out′ : List ℕ} → length (m .entries) ≤ i → RecordIdCall (recordsTold values rs′) i out′
       → out′ ≡ replicate idSize 0
-  no-record-id-behind-the-entries {i} h c = record-id-tells c ∙ no-id-told (recordsTold values rs′) i (omega (arith, records-are call slices returned m means))
+  no-record-id-behind-the-entries {i} h c = record-id-tells c ∙ no-id-told (recordsTold values rs′) i (omega (arith, many))
 
   -- ---- 4. THE NODES, where the meaning has a tree: its rows are its nodes in file order, each with its parent's number (`rows`)
 
@@ -215,17 +222,17 @@ module _ {s rs ps ns values rs′ ps′ ns′ : List ℕ} {code : ℕ} (call : R
   -- `sparrowpivot_check_order` returns 0 exactly if the entries are strictly in order
   pub check-order-returns-0-exactly : {code₁ : ℕ} {values₁ : List ℕ} → CheckOrderCall (recordsTold values rs′) ps′ code₁ values₁
       → (code₁ ≡ 0) ↔ InOrder (m .entries)
-  check-order-returns-0-exactly c = searching.order-0-exactly c (m .entries) (tables-show call slices returned m means .entries) (records-are call slices returned m means)
+  check-order-returns-0-exactly c = searching.order-0-exactly c (m .entries) shown many
 
   -- 13 with i exactly when entry i is the first that does not come strictly after the one before
   pub check-order-returns-13-exactly : {code₁ : ℕ} {values₁ : List ℕ} → CheckOrderCall (recordsTold values rs′) ps′ code₁ values₁ → (i : ℕ)
       → ((code₁ ≡ not-after) × (value values₁ 0 ≡ i)) ↔ FirstNotAfter (m .entries) i
-  check-order-returns-13-exactly c = searching.order-13-exactly c (m .entries) (tables-show call slices returned m means .entries) (records-are call slices returned m means)
+  check-order-returns-13-exactly c = searching.order-13-exactly c (m .entries) shown many
 
   -- and nothing else: no path of what was read lies outside
   pub check-order-returns-0-or-13 : {code₁ : ℕ} {values₁ : List ℕ} → CheckOrderCall (recordsTold values rs′) ps′ code₁ values₁
       → (code₁ ≡ 0) ⊎ (code₁ ≡ not-after)
-  check-order-returns-0-or-13 c = searching.order-0-or-13 c (m .entries) (tables-show call slices returned m means .entries) (records-are call slices returned m means)
+  check-order-returns-0-or-13 c = searching.order-0-or-13 c (m .entries) shown many
 
   -- `sparrowpivot_lookup` returns 11 exactly if a stage above 3 is looked for
   pub lookup-returns-11-exactly : {key : List ℕ} {stage code₁ : ℕ} {values₁ : List ℕ} → LookupCall (recordsTold values rs′) ps′ key stage code₁ values₁
@@ -236,15 +243,15 @@ module _ {s rs ps ns values rs′ ps′ ns′ : List ℕ} {code : ℕ} (call : R
       (c : LookupCall (recordsTold values rs′) ps′ key stage code₁ values₁) (small : stage ≤ highestStage) where
     -- if the entries are in order, at stages 0 to 3 it returns 0
     pub lookup-returns-0 : code₁ ≡ 0
-    lookup-returns-0 = searching.lookup-0 c (m .entries) (tables-show call slices returned m means .entries) (records-are call slices returned m means) order small
+    lookup-returns-0 = searching.lookup-0 c (m .entries) shown many order small
 
     -- tells 1 and i exactly if entry i has that path and stage
     pub lookup-tells-i-exactly : (i : ℕ) → ((value values₁ 0 ≡ 1) × (value values₁ 1 ≡ i)) ↔ EntryHas (m .entries) key stage i
-    lookup-tells-i-exactly = searching.lookup-finds-exactly c (m .entries) (tables-show call slices returned m means .entries) (records-are call slices returned m means) order small
+    lookup-tells-i-exactly = searching.lookup-finds-exactly c (m .entries) shown many order small
 
     -- and 0 exactly if no entry has them
     pub lookup-tells-none-exactly : (value values₁ 0 ≡ 0) ↔ ((i : ℕ) → ¬ EntryHas (m .entries) key stage i)
-    lookup-tells-none-exactly = searching.lookup-finds-none-exactly c (m .entries) (tables-show call slices returned m means .entries) (records-are call slices returned m means) order small
+    lookup-tells-none-exactly = searching.lookup-finds-none-exactly c (m .entries) shown many order small
 
 -- ---- 6. WHAT `sparrowpivot_write` RETURNS, AND WHEN; o is what the five low bits of the options ask for
 
@@ -295,8 +302,8 @@ module _ {rs ps ns nm out values out′ : List ℕ} {options code : ℕ} (call :
 -- bytes of its output, with stores that are large enough (`Roomy`)
 
 module _ {rs ps ns nm out values out′ : List ℕ} {options code : ℕ} (wrote : WriteCall rs ps ns nm options out code values out′) (returned : code ≡ 0)
-    (few : length ns < 2 ^ 64)
-    {records paths nodes values₁ rs′ ps′ ns′ : List ℕ} {code₁ : ℕ} (call : ReadCall (take (value values 1) out′) records paths nodes code₁ values₁ rs′ ps′ ns′)
+    (few : length ns < 2 ^ 64) {records paths nodes values₁ rs′ ps′ ns′ : List ℕ} {code₁ : ℕ}
+    (call : ReadCall (take (value values 1) out′) records paths nodes code₁ values₁ rs′ ps′ ns′)
     (slices : Slices (take (value values 1) out′) paths nodes) (roomy : Roomy rs ps ns (optionsFrom options) records paths nodes) where
   -- it returns 0, with the version that was told, as many records as the table has that are not marked REMOVE, and a tree of as many nodes as the node table has exactly if one was given and
   -- asked for; of the paths is asked only that one whose length cannot be stated holds no NUL
