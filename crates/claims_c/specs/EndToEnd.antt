@@ -294,6 +294,13 @@ module _ {rs ps ns nm out values out′ : List ℕ} {options code : ℕ} (call :
   pub write-returns-no-other : writing.OneOfFive code
   write-returns-no-other = writing.code-is-one-of-five call
 
+  -- two values are told, of a refusal one; the others are 0
+  pub write-tells-two-values : values ≡ value values 0 ∷ value values 1 ∷ 0 ∷ 0 ∷ 0 ∷ 0 ∷ 0 ∷ 0 ∷ []
+  write-tells-two-values = writing.two-values-told call
+
+  pub write-refusal-tells-one-value : (code ≡ 0 → ⊥) → value values 1 ≡ 0
+  write-refusal-tells-one-value = writing.second-is-zero call
+
   -- and a refusal leaves the output as it was
   pub write-refusal-leaves-the-output : (code ≡ 0 → ⊥) → out′ ≡ out
   write-refusal-leaves-the-output n = sym (writing.output call) ∙ answers.refused-leaves-the-output rs ps ns nm o out (λ d. n (writing.done-is-zero call d))

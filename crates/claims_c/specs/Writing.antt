@@ -12,7 +12,7 @@ use Rattle.write.specs.declared.Answer.{Answer}
 use Rattle.write.specs.declared.Answer.the-variants as answer
 use Rattle.write.specs.File.{Outcome, numberOf, writeAll}
 use Rattle.claims_write.specs.Answers.{IsDone}
-use Rattle.sparrowpivot.specs.Told.{Told}
+use Rattle.sparrowpivot.specs.Told.{Told, two}
 use Rattle.sparrowpivot.specs.Writing.{optionsFrom, writeValues}
 use Rattle.claims_settled.specs.Exports.{WriteCall, write-tells}
 use Rattle.claims_c.specs.Terms.{value}
@@ -31,6 +31,21 @@ answer-is (answer.PathOutside index) = refl
 answer-is answer.NotProper = refl
 answer-is answer.TooLarge = refl
 answer-is (answer.ShortOutput size) = refl
+
+-- version and size, or the one value of a refusal; the others are 0
+two-values : (a : Answer) → writeValues a ≡ two (value (writeValues a) 0) (value (writeValues a) 1)
+two-values (answer.Done version size) = refl
+two-values (answer.PathOutside index) = refl
+two-values answer.NotProper = refl
+two-values answer.TooLarge = refl
+two-values (answer.ShortOutput size) = refl
+
+one-value : (a : Answer) → (numberOf a ≡ 0 → ⊥) → value (writeValues a) 1 ≡ 0
+one-value (answer.Done version size) h = absurd (h refl)
+one-value (answer.PathOutside index) h = refl
+one-value answer.NotProper h = refl
+one-value answer.TooLarge h = refl
+one-value (answer.ShortOutput size) h = refl
 
 abbrev pub OneOfFive : ℕ → Type 0
 OneOfFive code = (code ≡ 0) ⊎ ((code ≡ path-outside) ⊎ ((code ≡ short-output) ⊎ ((code ≡ too-large) ⊎ (code ≡ not-proper))))
@@ -57,6 +72,12 @@ module _ {rs ps ns nm out values out′ : List ℕ} {options code : ℕ} (call :
       let e = ap (λ (t : Told). t .stores) (write-tells call) in
       let q : writing .out ≡ out′ = cc in
       q
+
+  pub two-values-told : values ≡ two (value values 0) (value values 1)
+  two-values-told = values-told ∙ two-values (writing .answer) ∙ ap (λ (l : List ℕ). two (value l 0) (value l 1)) (sym values-told)
+
+  pub second-is-zero : (code ≡ 0 → ⊥) → value values 1 ≡ 0
+  second-is-zero n = ap (λ (l : List ℕ). value l 1) values-told ∙ one-value (writing .answer) (λ e. n (number-told ∙ e))
 
   given : writing .answer ≡ answerTold code (value values 0) (value values 1)
   given = answer-is (writing .answer) ∙ (λ i. answerTold (sym number-told i) (value (sym values-told i) 0) (value (sym values-told i) 1))
