@@ -2,8 +2,7 @@
 -- it carries. Assumes nothing.
 use Prim.Native.Nat.{ℕ, _≤_}
 use mathlib.Core.Path.{_≡_, refl, sym, ap, _∙_, subst}
-use mathlib.Core.Bool.{true, false}
-use mathlib.Core.List.{List, [], _∷_}
+use mathlib.Core.List.{List}
 use mathlib.Core.Logic.{_↔_}
 use native.Mathlib.Omega.{arith}
 use lib.Dec.{eqb, lit≤}
@@ -113,14 +112,16 @@ module _ {s rs ps ns values rs′ ps′ ns′ : List ℕ} {code : ℕ} (call : R
   refused h = refusal-is given (λ e. h (number-told ∙ e)) ∙ (λ i. refusalOf (sym number-told i) (value (sym values-told i) 0))
 
   -- so a number is returned exactly when its refusal is answered
-  pub by-number : {number : ℕ} {a : Answer} {P : Type 0} → ((given ≡ a) ↔ P) → (number ≡ 0 → ⊥) → numberOf a ≡ number → ((x : ℕ) → refusalOf number x ≡ a) → (code ≡ number) ↔ P
+  pub by-number : {number : ℕ} {a : Answer} {P : Type 0} → ((given ≡ a) ↔ P) → (number ≡ 0 → ⊥) → numberOf a ≡ number → ((x : ℕ) → refusalOf number x ≡ a)
+      → (code ≡ number) ↔ P
   by-number both some n is = (
     (λ e. both .0 (refused (λ z. some (sym e ∙ z)) ∙ ap (λ (c : ℕ). refusalOf c (value values 0)) e ∙ is (value values 0))),
     (λ p. number-told ∙ ap numberOf (both .1 p) ∙ n),
   )
 
   -- and with what it carries
-  pub by-number-and-value : {number k : ℕ} {a : Answer} {P : Type 0} → ((given ≡ a) ↔ P) → (number ≡ 0 → ⊥) → numberOf a ≡ number → value (readValues a) 0 ≡ k → refusalOf number k ≡ a
+  pub by-number-and-value : {number k : ℕ} {a : Answer} {P : Type 0} → ((given ≡ a) ↔ P) → (number ≡ 0 → ⊥) → numberOf a ≡ number
+      → value (readValues a) 0 ≡ k → refusalOf number k ≡ a
       → ((code ≡ number) × (value values 0 ≡ k)) ↔ P
   by-number-and-value both some n v is = (
     (λ (e, f). both .0 (refused (λ z. some (sym e ∙ z)) ∙ (λ i. refusalOf (e i) (f i)) ∙ is)),
@@ -142,7 +143,8 @@ one-value answer.TooDeep h = refl
 one-value answer.NoNodeRoom h = refl
 
 -- and that is 0 but where one is carried
-nothing-carried : (a : Answer) → (numberOf a ≡ other-version → ⊥) → (numberOf a ≡ not-spelled → ⊥) → (numberOf a ≡ no-entry-room → ⊥) → (numberOf a ≡ not-filled → ⊥) → (numberOf a ≡ mandatory → ⊥)
+nothing-carried : (a : Answer) → (numberOf a ≡ other-version → ⊥) → (numberOf a ≡ not-spelled → ⊥) → (numberOf a ≡ no-entry-room → ⊥)
+    → (numberOf a ≡ not-filled → ⊥) → (numberOf a ≡ mandatory → ⊥)
     → carriedOf a ≡ 0
 nothing-carried (answer.Read version sparse tree records paths nodes) c₃ c₅ c₆ c₇ c₈ = refl
 nothing-carried answer.ShortFile c₃ c₅ c₆ c₇ c₈ = refl
@@ -163,7 +165,8 @@ module _ {s rs ps ns values rs′ ps′ ns′ : List ℕ} {code : ℕ} (call : R
   pub one-value-told : values ≡ one (value values 0)
   one-value-told = carried-told ∙ ap (λ (l : List ℕ). one (value l 0)) (sym carried-told)
 
-  pub nothing-told : (code ≡ other-version → ⊥) → (code ≡ not-spelled → ⊥) → (code ≡ no-entry-room → ⊥) → (code ≡ not-filled → ⊥) → (code ≡ mandatory → ⊥) → value values 0 ≡ 0
+  pub nothing-told : (code ≡ other-version → ⊥) → (code ≡ not-spelled → ⊥) → (code ≡ no-entry-room → ⊥) → (code ≡ not-filled → ⊥) → (code ≡ mandatory → ⊥)
+      → value values 0 ≡ 0
   nothing-told c₃ c₅ c₆ c₇ c₈ =
       let e = number-told call in
       ap (λ (l : List ℕ). value l 0) carried-told

@@ -7,19 +7,19 @@ use mathlib.Core.Logic.{_⊎_, inl, inr, ⊎-elim}
 use mathlib.Core.Option.{Option, none, some}
 use native.Mathlib.Omega.{arith}
 use lib.Dec.{lit≤}
-use lib.ListN.{length, take, drop, replicate, getElem?, length-append, length-drop}
+use lib.ListN.{length, take, drop, replicate, length-append, length-drop}
 use lib.Seq.{take-at, take-take, drop-drop, drop-append-seam, length-take-le}
 use borrow.Author.Tests.{lt-ltb, le-ltb}
 use Rattle.format.specs.Format.{idSize}
 use Rattle.node.specs.Store.{nodeSize, idPlace, idRoom, nodesIn, wordAt, idAt}
 use Rattle.node.specs.Laws.{word-out, name-part}
 use Rattle.grammar.specs.Number.{Count}
-use Rattle.grammar.specs.Extension.{Ext, TREE, Extensions}
+use Rattle.grammar.specs.Extension.{Extensions}
 use Rattle.grammar.specs.Tree.{Tree, tree, Subtrees, childless, beside, nodes, nodesOf, Id, of-tree, no-id, Head, NodeHead, node-head, Node, node, Nodes, no-node, one-node}
 use Rattle.grammar.specs.File.{Index, headerLength, CacheTree, spelled, malformed, absent, File, versionOf, countOf, space}
 use Rattle.grammar.specs.Space.{Spells, spells, spelled-in-space, spelled-has-good-header}
 use Rattle.claims_extension.specs.Body.{body-at}
-use Rattle.claims_tree.specs.Rendering.{countWord, howMany, idBytes}
+use Rattle.claims_tree.specs.Rendering.{countWord, idBytes}
 use Rattle.claims_tree.specs.Shown.{ShowsNode, ShowsTree, ShowsSubtrees}
 use Rattle.sparrowpivot.specs.Told.{Told, told, bit}
 use Rattle.sparrowpivot.specs.Tables.{tellNode, nodeId}
@@ -64,7 +64,8 @@ module _ (s ns : List ℕ) where
   numbered r e x = subst (λ (k : ℕ). ShowsRow s ns k r) e x
 
   mutual
-    rows-shown-from : (t : Tree) (p : Option ℕ) (me : ℕ) → ShowsTree s ns (parentWord p) me t → (j : ℕ) (r : Row) → RowIs (rowsFrom p me t) j r → ShowsRow s ns (me + j) r
+    rows-shown-from : (t : Tree) (p : Option ℕ) (me : ℕ) → ShowsTree s ns (parentWord p) me t → (j : ℕ) (r : Row) → RowIs (rowsFrom p me t) j r
+        → ShowsRow s ns (me + j) r
     rows-shown-from (tree place name count id ts) p me (x, y) zero r e = numbered r (omega arith) (subst (ShowsRow s ns me) (same-row e) x)
     rows-shown-from (tree place name count id ts) p me (x, y) (suc j) r e = numbered r (omega arith) (rows-shown-below ts me (me + 1) y j r e)
 
@@ -89,14 +90,16 @@ head-row : {h : List ℕ} {v : Head} → NodeHead idSize h v → Id idSize (v .c
 head-row (node-head {name = name} {c = c} {k = k} {id = id} x y z w) = (w, omega (arith, length-append name (0 ∷ (c ++ (32 ∷ (k ++ (10 ∷ id)))))))
 
 mutual
-  rows-spelled : (end : ℕ) (t : Tree) {place : ℕ} {b : List ℕ} → Node idSize place b t → place + length b ≤ end → (p : Option ℕ) (me j : ℕ) (r : Row) → RowIs (rowsFrom p me t) j r → SpelledRow end r
+  rows-spelled : (end : ℕ) (t : Tree) {place : ℕ} {b : List ℕ} → Node idSize place b t → place + length b ≤ end → (p : Option ℕ) (me j : ℕ) (r : Row)
+      → RowIs (rowsFrom p me t) j r → SpelledRow end r
   rows-spelled end (tree place name count id ts) (node {h = h} {b = c} u us dd q) room p me zero r e =
       let (i, l) = head-row u in
       subst (SpelledRow end) (same-row e) (record { id = i; inside = omega (arith, ap length q, length-append h c) })
   rows-spelled end (tree place name count id ts) (node {h = h} {b = c} u us dd q) room p me (suc j) r e =
       rows-below-spelled end ts us (omega (arith, ap length q, length-append h c)) me (me + 1) j r e
 
-  rows-below-spelled : (end : ℕ) (ts : Subtrees) {place k : ℕ} {b : List ℕ} → Nodes idSize place k b ts → place + length b ≤ end → (p me j : ℕ) (r : Row) → RowIs (rowsBelow p me ts) j r → SpelledRow end r
+  rows-below-spelled : (end : ℕ) (ts : Subtrees) {place k : ℕ} {b : List ℕ} → Nodes idSize place k b ts → place + length b ≤ end → (p me j : ℕ) (r : Row)
+      → RowIs (rowsBelow p me ts) j r → SpelledRow end r
   rows-below-spelled end childless no-node room p me j r e = no-row j r e
   rows-below-spelled end (beside t ts) (one-node {b = b} {c = c} u us q) room p me j r e =
       ⊎-elim (λ i. rows-spelled end t u (omega (arith, ap length q, length-append b c)) (some p) me j r i)
@@ -168,7 +171,8 @@ module _ {s ns : List ℕ} {i : ℕ} {r : Row} (there : i < nodesIn ns) (x : Sho
   node-id-told = rw (lt-ltb i (nodesIn ns) there) (id-cut ∙ ap (λ (l : List ℕ). take idSize l) (x .identified) ∙ id-first (y .id))
 
 -- behind the last one every number is 0
-pub no-node-told : (ns : List ℕ) (i : ℕ) → nodesIn ns ≤ i → {code : ℕ} {values : List ℕ} → told code values [] ≡ tellNode ns i → (code ≡ 0) × (values ≡ replicate 8 0)
+pub no-node-told : (ns : List ℕ) (i : ℕ) → nodesIn ns ≤ i → {code : ℕ} {values : List ℕ} → told code values [] ≡ tellNode ns i
+    → (code ≡ 0) × (values ≡ replicate 8 0)
 no-node-told ns i h t =
     let z : (k : ℕ) → wordAt k ns i ≡ 0 = λ k. sym (word-out k ns i h) in (
       ap (λ (t : Told). t .code) t,

@@ -2,19 +2,16 @@
 -- answers. Assumes nothing.
 use Prim.Native.Nat.{ℕ, zero, suc, _+_, _-_, _≤_, _<_}
 use mathlib.Core.Path.{_≡_, refl, sym, ap, _∙_, subst}
-use mathlib.Core.Bool.{true}
 use mathlib.Core.List.{List, [], _∷_}
 use mathlib.Core.Logic.{_↔_, _⊎_, inl, inr, ⊎-elim}
-use mathlib.Core.Option.{some}
 use native.Mathlib.Omega.{arith}
-use lib.ListN.{length, getElem?}
+use lib.ListN.{length}
 use Rattle.laws.specs.Tests.{lt-or-ge}
-use Rattle.refusal.specs.Refusal.{no-stage, path-outside, not-after}
-use Rattle.entry.specs.Record.{recordsIn, stageAt, pathAt}
-use Rattle.access.specs.Order.{Precedes}
+use Rattle.refusal.specs.Refusal.{no-stage, not-after}
+use Rattle.entry.specs.Record.{recordsIn}
 use Rattle.access.specs.Lookup.{highestStage, lookupAt, foundNumber}
 use Rattle.access.specs.Verify.{verifyAt, verifiedNumber}
-use Rattle.access.specs.Sorted.{Lies, After, StrictlySorted, Follows, Passes, yes-lies, sorted-said, said-sorted, refusal-12-said, refusal-13-said, said-refusal-13}
+use Rattle.access.specs.Sorted.{Lies, After, StrictlySorted, yes-lies, sorted-said, said-sorted, refusal-12-said, refusal-13-said, said-refusal-13}
 use Rattle.access.specs.Finds as finds
 use Rattle.access.specs.Finds.{Has}
 use Rattle.access.specs.declared.Found.{Found}
@@ -22,12 +19,12 @@ use Rattle.access.specs.declared.Found.the-variants.{At, Absent, NoStage, PathO
 use Rattle.access.specs.declared.verify.Verified.{Verified}
 use Rattle.access.specs.declared.verify.Verified.the-variants as verified
 use Rattle.grammar.specs.Entry.{Meaning}
-use Rattle.claims_entries.specs.Fields.{Shows, meaning-at}
+use Rattle.claims_entries.specs.Fields.{meaning-at}
 use Rattle.claims_entries.specs.Shown.{EachShown}
 use Rattle.sparrowpivot.specs.Told.{Told}
 use Rattle.sparrowpivot.specs.Searching.{foundValues, verifiedValues}
 use Rattle.claims_settled.specs.Exports.{LookupCall, lookup-tells, CheckOrderCall, check-order-tells}
-use Rattle.claims_c.specs.Terms.{value, stageOf, EntryIs, ComesBefore, NextIsAfter, InOrder, FirstNotAfter, EntryHas}
+use Rattle.claims_c.specs.Terms.{value, EntryIs, ComesBefore, InOrder, FirstNotAfter, EntryHas}
 
 -- an entry that is there is within the length
 pub entry-within : (es : List Meaning) (i : ℕ) (e : Meaning) → EntryIs es i e → i < length es
@@ -172,7 +169,8 @@ eleven-is-no-stage (PathOutside i) e = absurd (omega arith)
 
 -- ---- calls
 
-module _ {rs ps values : List ℕ} {code : ℕ} (call : CheckOrderCall rs ps code values) (es : List Meaning) (shown : EachShown rs ps es) (many : recordsIn rs ≡ length es) where
+module _ {rs ps values : List ℕ} {code : ℕ} (call : CheckOrderCall rs ps code values) (es : List Meaning) (shown : EachShown rs ps es)
+    (many : recordsIn rs ≡ length es) where
   order-number : code ≡ verifiedNumber (verifyAt rs ps)
   order-number = ap (λ (t : Told). t .code) (check-order-tells call)
 

@@ -1,7 +1,7 @@
 -- WHAT IS TOLD OF A TABLE: of a record that shows an entry, that entry field by field; and that what a call of `sparrowpivot_read` left where it returned 0, cut to what it told, shows the file's
 -- one meaning. Assumes that the file is bytes and that no slice has 2^64 bytes or more, the premise `Slices`.
-use Prim.Native.Nat.{ℕ, _+_, _-_, _*_, _≤_, _<_}
-use mathlib.Core.Path.{_≡_, refl, sym, ap, _∙_, subst}
+use Prim.Native.Nat.{ℕ, _+_, _*_, _≤_, _<_}
+use mathlib.Core.Path.{_≡_, sym, ap, _∙_, subst}
 use mathlib.Core.List.{List, [], _∷_}
 use mathlib.Core.Option.{none, some}
 use native.Mathlib.Omega.{arith}
@@ -50,7 +50,8 @@ module _ {rs ps : List ℕ} {i : ℕ} {e : Meaning} (x : Shows idSize rs ps i e)
   )
 
   pub stat-told : {code : ℕ} {values : List ℕ} → told code values [] ≡ tellStat rs i
-      → (code ≡ 0) × (values ≡ e .stat .ctime ∷ e .stat .ctime-nanos ∷ e .stat .mtime ∷ e .stat .mtime-nanos ∷ e .stat .dev ∷ e .stat .ino ∷ e .stat .uid ∷ e .stat .gid ∷ [])
+      → (code ≡ 0)
+      × (values ≡ e .stat .ctime ∷ e .stat .ctime-nanos ∷ e .stat .mtime ∷ e .stat .mtime-nanos ∷ e .stat .dev ∷ e .stat .ino ∷ e .stat .uid ∷ e .stat .gid ∷ [])
   stat-told t = (
     ap (λ (t : Told). t .code) t,
     ap (λ (t : Told). t .values) t
@@ -81,7 +82,8 @@ module _ (rs : List ℕ) (i : ℕ) (none-there : recordsIn rs ≤ i) where
 
 -- ---- what a call left where it returned 0
 
-module _ {s rs ps ns values rs′ ps′ ns′ : List ℕ} {code : ℕ} (call : ReadCall s rs ps ns code values rs′ ps′ ns′) (slices : Slices s ps ns) (returned : code ≡ 0) (m : Index) (means : File idSize s m) where
+module _ {s rs ps ns values rs′ ps′ ns′ : List ℕ} {code : ℕ} (call : ReadCall s rs ps ns code values rs′ ps′ ns′) (slices : Slices s ps ns)
+    (returned : code ≡ 0) (m : Index) (means : File idSize s m) where
   pub meaning-told : values ≡ m .version ∷ bit (m .sparse) ∷ bit (hasTree (m .tree)) ∷ length (m .entries) ∷ length (pathsBytes (m .entries)) ∷ nodesOf (m .tree) ∷ 0 ∷ 0 ∷ []
   meaning-told =
       let (o, x, y, one) = accepted-is-the-one-meaning s rs ps ns slices (zero-is-read call returned) in

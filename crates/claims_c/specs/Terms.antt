@@ -2,13 +2,11 @@
 -- nodes of a tree in file order with the number of each one's parent. No reader is named here. Assumes nothing.
 use Prim.Native.Nat.{ℕ, _+_, _-_, _*_, _≤_, _<_}
 use mathlib.Core.Path.{_≡_}
-use mathlib.Core.Bool.{Bool, false}
 use mathlib.Core.List.{List, [], _∷_, _++_}
 use mathlib.Core.Option.{Option, none, some}
 use lib.ListN.{length, getD, take, drop, replicate, getElem?}
 use Rattle.format.specs.Format.{idSize}
-use Rattle.laws.specs.Pick.{pick}
-use Rattle.entry.specs.Flags.{stageRaw, bit as isSet}
+use Rattle.entry.specs.Flags.{stageRaw}
 use Rattle.entry.specs.Layout.{recordSize}
 use Rattle.node.specs.Head.{minusOne}
 use Rattle.node.specs.Store.{nodeSize}
@@ -109,9 +107,3 @@ parentWord (some i) = i
 abbrev pub idTold : Count → List ℕ → List ℕ
 idTold (covers v) id = id
 idTold invalid id = replicate idSize 0
-
--- ---- what a writer is asked for
-
--- a tree is given and asked for: bits 0 and 1
-abbrev pub treeAsked : ℕ → Bool
-treeAsked options = pick (isSet 0 options) (isSet 1 options) false
