@@ -1,5 +1,5 @@
 // What the Rust's writer makes of the tables of crates/write_pages (D10 to D13 of docs/DIFFERENCES.md), and whether its reader reads that; then what it does where we refuse a table (D14, 14, 15).
-// tests/make-pages builds and runs this over the oracle's build of gix-index 0.55.0. Each line: the page, the bytes (for long ones their number and SHA-1), and what the reader says of the
+// tests/make/write_pages builds and runs this over the oracle's build of gix-index 0.55.0. Each line: the page, the bytes (for long ones their number and SHA-1), and what the reader says of the
 // tree, or of the file; of a refused table what was answered, and how many bytes it had written.
 use gix_hash::{Kind::Sha1, ObjectId};
 use gix_index::{decode, entry, extension::Tree, write, State};
