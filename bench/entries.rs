@@ -6,7 +6,17 @@ use std::time::Instant;
 #[link(name = "sparrowpivot", kind = "static")]
 extern "C" {
     fn sparrowpivot_sha1(bytes: *const u8, count: usize, out: *mut u8);
-    fn sparrowpivot_entries(file: *const u8, n: usize, version: u32, count: usize, records: *mut u8, nr: usize, paths: *mut u8, np: usize, values: *mut u64) -> u32;
+    fn sparrowpivot_entries(
+        file: *const u8,
+        n: usize,
+        version: u32,
+        count: usize,
+        records: *mut u8,
+        nr: usize,
+        paths: *mut u8,
+        np: usize,
+        values: *mut u64,
+    ) -> u32;
 }
 
 fn word(s: &[u8], at: usize) -> usize {
@@ -54,10 +64,27 @@ fn main() {
     let mut times = Vec::new();
     for _ in 0..a[3].parse::<usize>().unwrap() {
         let t = Instant::now();
-        let r = unsafe { sparrowpivot_entries(s.as_ptr(), s.len(), version, n, records.as_mut_ptr(), records.len(), paths.as_mut_ptr(), paths.len(), values.as_mut_ptr()) };
+        let r = unsafe {
+            sparrowpivot_entries(
+                s.as_ptr(),
+                s.len(),
+                version,
+                n,
+                records.as_mut_ptr(),
+                records.len(),
+                paths.as_mut_ptr(),
+                paths.len(),
+                values.as_mut_ptr(),
+            )
+        };
         times.push(t.elapsed().as_nanos() as f64 / n as f64);
         assert_eq!((r, values[0] <= s.len() as u64 - 20), (0, true));
     }
     times.sort_by(f64::total_cmp);
-    println!("{:44} median {:.2} ns/entry   best {:.2} ns/entry", "this reader (stores lent, not cleared)", times[times.len() / 2], times[0]);
+    println!(
+        "{:44} median {:.2} ns/entry   best {:.2} ns/entry",
+        "this reader (stores lent, not cleared)",
+        times[times.len() / 2],
+        times[0]
+    );
 }

@@ -119,9 +119,18 @@ fn main() {
         }
     }
     for (i, (name, _)) in all.iter().enumerate() {
-        println!("{name}: {:.0} MB/s; a message of 40 bytes: {:.0} ns", data.len() as f64 / best[i][0] / 1e6, best[i][1] * 1e5);
+        println!(
+            "{name}: {:.0} MB/s; a message of 40 bytes: {:.0} ns",
+            data.len() as f64 / best[i][0] / 1e6,
+            best[i][1] * 1e5
+        );
     }
     for i in 1..3 {
-        println!("speed of the proved digest to {}: {:.2}; at 40 bytes: {:.2}", all[i].0, best[i][0] / best[0][0], best[i][1] / best[0][1]);
+        println!(
+            "speed of the proved digest to {}: {:.2}; at 40 bytes: {:.2}",
+            all[i].0,
+            best[i][0] / best[0][0],
+            best[i][1] / best[0][1]
+        );
     }
 }

@@ -6,16 +6,71 @@ use crate::writing::Lent;
 pub mod raw {
     #[link(name = "sparrowpivot", kind = "static")]
     extern "C" {
-        pub fn sparrowpivot_read(file: *const u8, n: usize, records: *mut u8, nr: usize, paths: *mut u8, np: usize, nodes: *mut u8, nn: usize, values: *mut u64) -> u32;
-        pub fn sparrowpivot_entries(file: *const u8, n: usize, version: u32, count: usize, records: *mut u8, nr: usize, paths: *mut u8, np: usize, values: *mut u64) -> u32;
-        pub fn sparrowpivot_write(records: *const u8, nr: usize, paths: *const u8, np: usize, nodes: *const u8, nn: usize, names: *const u8, nm: usize, options: u32, out: *mut u8, no: usize, values: *mut u64) -> u32;
-        pub fn sparrowpivot_record(records: *const u8, nr: usize, paths: *const u8, np: usize, i: usize, values: *mut u64) -> u32;
+        pub fn sparrowpivot_read(
+            file: *const u8,
+            n: usize,
+            records: *mut u8,
+            nr: usize,
+            paths: *mut u8,
+            np: usize,
+            nodes: *mut u8,
+            nn: usize,
+            values: *mut u64,
+        ) -> u32;
+        pub fn sparrowpivot_entries(
+            file: *const u8,
+            n: usize,
+            version: u32,
+            count: usize,
+            records: *mut u8,
+            nr: usize,
+            paths: *mut u8,
+            np: usize,
+            values: *mut u64,
+        ) -> u32;
+        pub fn sparrowpivot_write(
+            records: *const u8,
+            nr: usize,
+            paths: *const u8,
+            np: usize,
+            nodes: *const u8,
+            nn: usize,
+            names: *const u8,
+            nm: usize,
+            options: u32,
+            out: *mut u8,
+            no: usize,
+            values: *mut u64,
+        ) -> u32;
+        pub fn sparrowpivot_record(
+            records: *const u8,
+            nr: usize,
+            paths: *const u8,
+            np: usize,
+            i: usize,
+            values: *mut u64,
+        ) -> u32;
         pub fn sparrowpivot_record_stat(records: *const u8, nr: usize, i: usize, values: *mut u64) -> u32;
         pub fn sparrowpivot_record_id(records: *const u8, nr: usize, i: usize, out: *mut u8);
         pub fn sparrowpivot_node(nodes: *const u8, nn: usize, i: usize, values: *mut u64) -> u32;
         pub fn sparrowpivot_node_id(nodes: *const u8, nn: usize, i: usize, out: *mut u8);
-        pub fn sparrowpivot_lookup(records: *const u8, nr: usize, paths: *const u8, np: usize, key: *const u8, nk: usize, stage: u32, values: *mut u64) -> u32;
-        pub fn sparrowpivot_check_order(records: *const u8, nr: usize, paths: *const u8, np: usize, values: *mut u64) -> u32;
+        pub fn sparrowpivot_lookup(
+            records: *const u8,
+            nr: usize,
+            paths: *const u8,
+            np: usize,
+            key: *const u8,
+            nk: usize,
+            stage: u32,
+            values: *mut u64,
+        ) -> u32;
+        pub fn sparrowpivot_check_order(
+            records: *const u8,
+            nr: usize,
+            paths: *const u8,
+            np: usize,
+            values: *mut u64,
+        ) -> u32;
         pub fn sparrowpivot_eoie(file: *const u8, n: usize, values: *mut u64) -> u32;
         pub fn sparrowpivot_ieot_count(file: *const u8, n: usize, offset: usize, values: *mut u64) -> u32;
         pub fn sparrowpivot_ieot_pair(file: *const u8, n: usize, offset: usize, k: usize, values: *mut u64) -> u32;
@@ -51,7 +106,11 @@ impl Store {
         let n = self.all.len();
         let lent = self.lent();
         let same = |s: &[u8]| s.iter().all(|b| *b == SENTINEL);
-        same(&self.all[..FENCE]) && same(&self.all[n - FENCE..]) && lent.len() >= used.len() && &lent[..used.len()] == used && same(&lent[used.len()..])
+        same(&self.all[..FENCE])
+            && same(&self.all[n - FENCE..])
+            && lent.len() >= used.len()
+            && &lent[..used.len()] == used
+            && same(&lent[used.len()..])
     }
 }
 
@@ -81,10 +140,23 @@ pub struct Ours {
 
 /// Reads a file into stores of these sizes, and asks the accessors for what the stores hold then. `entries` is the number of entries to ask for.
 pub fn read(file: &[u8], rooms: Rooms, entries: usize) -> Ours {
-    let (mut records, mut paths, mut nodes) = (Store::new(rooms.records), Store::new(rooms.paths), Store::new(rooms.nodes));
+    let (mut records, mut paths, mut nodes) =
+        (Store::new(rooms.records), Store::new(rooms.paths), Store::new(rooms.nodes));
     let mut values = Values::new();
     let (r, p, n) = (records.lent_mut(), paths.lent_mut(), nodes.lent_mut());
-    let number = unsafe { sparrowpivot_read(file.as_ptr(), file.len(), r.as_mut_ptr(), r.len(), p.as_mut_ptr(), p.len(), n.as_mut_ptr(), n.len(), values.lend()) };
+    let number = unsafe {
+        sparrowpivot_read(
+            file.as_ptr(),
+            file.len(),
+            r.as_mut_ptr(),
+            r.len(),
+            p.as_mut_ptr(),
+            p.len(),
+            n.as_mut_ptr(),
+            n.len(),
+            values.lend(),
+        )
+    };
     let v = values.told();
     let mut reading = Reading::default();
     if number != 0 {
@@ -110,7 +182,19 @@ pub fn read(file: &[u8], rooms: Rooms, entries: usize) -> Ours {
 pub fn entries(file: &[u8], version: u32, count: usize, rooms: Rooms) -> (u32, [u64; 8], Store, Store) {
     let (mut records, mut paths, mut v) = (Store::new(rooms.records), Store::new(rooms.paths), Values::new());
     let (r, p) = (records.lent_mut(), paths.lent_mut());
-    let n = unsafe { sparrowpivot_entries(file.as_ptr(), file.len(), version, count, r.as_mut_ptr(), r.len(), p.as_mut_ptr(), p.len(), v.lend()) };
+    let n = unsafe {
+        sparrowpivot_entries(
+            file.as_ptr(),
+            file.len(),
+            version,
+            count,
+            r.as_mut_ptr(),
+            r.len(),
+            p.as_mut_ptr(),
+            p.len(),
+            v.lend(),
+        )
+    };
     (n, v.told(), records, paths)
 }
 
@@ -118,7 +202,22 @@ pub fn entries(file: &[u8], version: u32, count: usize, rooms: Rooms) -> (u32, [
 pub fn write(l: &Lent, options: u32, room: usize) -> (u32, [u64; 8], Store) {
     let (mut out, mut v) = (Store::new(room), Values::new());
     let (r, p, n, m, o) = (&l.records, &l.paths, &l.nodes, &l.names, out.lent_mut());
-    let number = unsafe { sparrowpivot_write(r.as_ptr(), r.len(), p.as_ptr(), p.len(), n.as_ptr(), n.len(), m.as_ptr(), m.len(), options, o.as_mut_ptr(), o.len(), v.lend()) };
+    let number = unsafe {
+        sparrowpivot_write(
+            r.as_ptr(),
+            r.len(),
+            p.as_ptr(),
+            p.len(),
+            n.as_ptr(),
+            n.len(),
+            m.as_ptr(),
+            m.len(),
+            options,
+            o.as_mut_ptr(),
+            o.len(),
+            v.lend(),
+        )
+    };
     (number, v.told(), out)
 }
 
@@ -172,7 +271,18 @@ pub fn absent_is_zero() -> bool {
 /// The number returned and the eight values.
 pub fn lookup(records: &[u8], paths: &[u8], key: &[u8], stage: u32) -> (u32, [u64; 8]) {
     let mut v = Values::new();
-    let n = unsafe { sparrowpivot_lookup(records.as_ptr(), records.len(), paths.as_ptr(), paths.len(), key.as_ptr(), key.len(), stage, v.lend()) };
+    let n = unsafe {
+        sparrowpivot_lookup(
+            records.as_ptr(),
+            records.len(),
+            paths.as_ptr(),
+            paths.len(),
+            key.as_ptr(),
+            key.len(),
+            stage,
+            v.lend(),
+        )
+    };
     (n, v.told())
 }
 

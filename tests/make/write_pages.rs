@@ -44,7 +44,13 @@ fn tree_page(page: &str, root: Tree) {
 }
 
 fn push(state: &mut State, mode: u32, path: &[u8]) {
-    state.dangerously_push_entry(entry::Stat::default(), ObjectId::null(Sha1), entry::Flags::empty(), entry::Mode::from_bits_retain(mode), path.into());
+    state.dangerously_push_entry(
+        entry::Stat::default(),
+        ObjectId::null(Sha1),
+        entry::Flags::empty(),
+        entry::Mode::from_bits_retain(mode),
+        path.into(),
+    );
 }
 
 /// Counts what is written.
@@ -76,7 +82,8 @@ fn outside_page(records: usize) {
     state.take_path_backing();
     let mut out = Sink(0);
     let order = answer(|| state.verify_entries());
-    let lookup = answer(|| Ok::<_, String>(state.entry_index_by_path_and_stage(b"a"[..].into(), entry::Stage::Unconflicted)));
+    let lookup =
+        answer(|| Ok::<_, String>(state.entry_index_by_path_and_stage(b"a"[..].into(), entry::Stage::Unconflicted)));
     let written = answer(|| state.write_to(&mut out, write::Options::default()));
     println!("D14, records {records}: order {order}; lookup {lookup}; write {written}, {} bytes written", out.0);
 }
@@ -117,7 +124,12 @@ fn main() {
     }
     let file = written(&state);
     let back = if read(&file).is_ok() { "it is read back" } else { "it is not read back" };
-    println!("D12, D13: {} bytes, sha1 {}; the second entry's head {}; {back}", file.len(), hash(&file), hex(&file[4172..4234]));
+    println!(
+        "D12, D13: {} bytes, sha1 {}; the second entry's head {}; {back}",
+        file.len(),
+        hash(&file),
+        hex(&file[4172..4234])
+    );
 
     std::panic::set_hook(Box::new(|_| ()));
     outside_page(1);
