@@ -44,7 +44,7 @@ fn main() {
             ours = ours.min(seconds(|| {
                 used = unsafe { tree_bench(body.as_ptr(), body.len(), 0, body.len(), nodes.as_mut_ptr(), nodes.len()) }
             }));
-            rust = rust.min(seconds(|| assert!(gix_index::init::tree_decode(&body).is_some())));
+            rust = rust.min(seconds(|| assert!(gix_index::init::tree_decode(&body, gix_hash::Kind::Sha1).is_some())));
         }
         assert!(used > 20000);
         println!("{what}: {:.2} ms, {:.2} of the Rust", ours * 1e3, ours / rust);

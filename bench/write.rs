@@ -5,41 +5,11 @@
 // by byte.
 //   write FILE ROUNDS     FILE: an index of version 2 without TREE
 mod clock;
+#[path = "../host/src/declarations.rs"]
+mod declarations;
 use clock::seconds;
+use declarations::*;
 use gix_index::{decode, init, write, State};
-
-#[link(name = "sparrowpivot", kind = "static")]
-extern "C" {
-    fn sparrowpivot_read(
-        file: *const u8,
-        n: usize,
-        records: *mut u8,
-        nr: usize,
-        paths: *mut u8,
-        np: usize,
-        nodes: *mut u8,
-        nn: usize,
-        values: *mut u64,
-    ) -> u32;
-    fn sparrowpivot_write(
-        records: *const u8,
-        nr: usize,
-        paths: *const u8,
-        np: usize,
-        nodes: *const u8,
-        nn: usize,
-        names: *const u8,
-        nm: usize,
-        options: u32,
-        out: *mut u8,
-        no: usize,
-        values: *mut u64,
-    ) -> u32;
-}
-
-const TREE_GIVEN: u32 = 1;
-const TREE_ASKED: u32 = 2;
-const UNHASHED: u32 = 16;
 
 fn node(name: &str, subtrees: &[Vec<u8>]) -> Vec<u8> {
     let head = format!("{name}\0{} {}\n", 3 + subtrees.len(), subtrees.len());
@@ -69,7 +39,7 @@ struct Table {
 
 fn table(file: Vec<u8>) -> Table {
     let (mut records, mut paths, mut nodes, mut values) =
-        (vec![0; file.len() * 2], vec![0; file.len()], vec![0; 72 * 5000], [0u64; 8]);
+        (vec![0; file.len() * 2], vec![0; file.len()], vec![0; 5000 * NODE_SIZE], [0; VALUES]);
     let no = unsafe {
         sparrowpivot_read(
             file.as_ptr(),
@@ -80,19 +50,19 @@ fn table(file: Vec<u8>) -> Table {
             paths.len(),
             nodes.as_mut_ptr(),
             nodes.len(),
-            values.as_mut_ptr(),
+            &mut values,
         )
     };
     assert_eq!(no, 0);
-    records.truncate(values[3] as usize * 96);
+    records.truncate(values[3] as usize * RECORD_SIZE);
     paths.truncate(values[4] as usize);
-    nodes.truncate(values[5] as usize * 72);
+    nodes.truncate(values[5] as usize * NODE_SIZE);
     Table { records, paths, nodes, file }
 }
 
 impl Table {
     fn write(&self, options: u32, out: &mut [u8]) -> usize {
-        let mut values = [0u64; 8];
+        let mut values = [0; VALUES];
         let (r, p, n, f) = (&self.records, &self.paths, &self.nodes, &self.file);
         let no = unsafe {
             sparrowpivot_write(
@@ -107,7 +77,7 @@ impl Table {
                 options,
                 out.as_mut_ptr(),
                 out.len(),
-                values.as_mut_ptr(),
+                &mut values,
             )
         };
         assert_eq!(no, 0);
@@ -136,12 +106,15 @@ fn main() {
     for (with, file) in [("no TREE", index.clone()), ("a TREE of 4,041 nodes", with_tree(&index))] {
         let options = decode::Options { thread_limit: Some(1), ..Default::default() };
         let state = State::from_bytes(&file, zero, gix_hash::Kind::Sha1, options).unwrap().0;
-        assert_eq!(state.tree().is_some(), init::tree_decode(&tree()).is_some() && with != "no TREE");
+        assert_eq!(
+            state.tree().is_some(),
+            init::tree_decode(&tree(), gix_hash::Kind::Sha1).is_some() && with != "no TREE"
+        );
         let table = table(file);
-        let records = table.records.len() / 96;
+        let records = table.records.len() / RECORD_SIZE;
         for (trailer, hashed) in [("no hash", false), ("hash", true)] {
-            let bits =
-                if state.tree().is_some() { TREE_GIVEN + TREE_ASKED } else { 0 } + if hashed { 0 } else { UNHASHED };
+            let bits = if state.tree().is_some() { WRITE_TREE_GIVEN + WRITE_TREE } else { 0 }
+                + if hashed { 0 } else { WRITE_UNHASHED };
             let (mut ours, mut rust, mut size) = (f64::MAX, f64::MAX, 0);
             let (mut out, mut theirs) = (vec![1; table.file.len() + 100], Vec::with_capacity(table.file.len() + 100));
             for _ in 0..rounds {

@@ -1,8 +1,8 @@
 //! Hostile input over the C boundary. Every lent slice, the eight values and the twenty bytes of an id too, ends right before a page that may not be touched; in a
 //! second turn it begins right behind one. So a byte read or written outside ends the process, which is a child of its own. What is lent to be read must stay as it
 //! was, and so must the bytes on the open side.
+use crate::declarations::*;
 use crate::generate::{self, Rng};
-use crate::library::raw::*;
 use crate::model::{NODE, RECORD};
 use crate::write_cases::Table;
 use std::io::Write;
@@ -218,15 +218,15 @@ impl Harness {
     fn call(&mut self, name: &str) {
         self.calls[FUNCTIONS.iter().position(|f| *f == name).unwrap()] += 1;
     }
-    fn values(&mut self) -> *mut u64 {
-        self.values.room(64).0 as *mut u64
+    fn values(&mut self) -> *mut [u64; VALUES] {
+        self.values.room(8 * VALUES).0.cast()
     }
-    fn told(&self) -> [u64; 8] {
+    fn told(&self) -> [u64; VALUES] {
         self.values.kept();
         std::array::from_fn(|i| u64::from_ne_bytes(self.values.now()[8 * i..8 * i + 8].try_into().unwrap()))
     }
-    fn id(&mut self) -> *mut u8 {
-        self.id.room(20).0
+    fn id(&mut self) -> *mut [u8; ID_SIZE] {
+        self.id.room(ID_SIZE).0.cast()
     }
     /// Reads a file into stores of some size and answers what they hold.
     fn read_file(&mut self, r: &mut Rng, s: &[u8]) -> [Vec<u8>; 3] {

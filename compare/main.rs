@@ -3,6 +3,8 @@
 //! Every answer is compared twice: with document 01's rules, written once more in model.rs, answer, values and every byte lent; and with the Rust. Where the two
 //! part, a row of docs/DIFFERENCES.md has to say so, and what the Rust then answers; all else is a failure, printed with its input.
 mod cases;
+#[path = "../host/src/declarations.rs"]
+mod declarations;
 mod documented;
 mod generate;
 mod hostile;

@@ -1,8 +1,8 @@
 //! Document 01's reader once more, plainly, with the rows of docs/DIFFERENCES.md as switches: without them it says what the library must answer and leave in its
 //! stores, with them what the Rust answers. So a difference is known only if a rule says both sides of it.
 
-pub const RECORD: usize = 96;
-pub const NODE: usize = 72;
+pub use crate::declarations::{NODE_SIZE as NODE, RECORD_SIZE as RECORD};
+
 const TRAILER: usize = 20;
 const HEADER: usize = 12;
 const DEPTH: usize = 64;

@@ -83,8 +83,8 @@ uint32_t sparrowpivot_read(const uint8_t *file, size_t file_len, uint8_t *record
 uint32_t sparrowpivot_entries(const uint8_t *file, size_t file_len, uint32_t version, size_t count, uint8_t *records, size_t records_len, uint8_t *paths,
     size_t paths_len, uint64_t values[SPARROWPIVOT_VALUES]);
 
-/* The most entries that a file of `file_size` bytes can have. `told` is 0 where it is not known where extensions begin; else they begin at `offset`. */
-uint64_t sparrowpivot_max_entries(size_t file_size, uint32_t told, size_t offset, uint32_t version);
+/* The most entries that a file of `size` bytes can have. `told` is 0 where it is not known where extensions begin; else they begin at `offset`. */
+uint64_t sparrowpivot_max_entries(size_t size, uint32_t told, size_t offset, uint32_t version);
 
 /* The SHA-1 of bytes. */
 void sparrowpivot_sha1(const uint8_t *bytes, size_t bytes_len, uint8_t out[SPARROWPIVOT_ID_SIZE]);

@@ -2,6 +2,7 @@
 use std::fmt;
 use std::ops::Range;
 
+use crate::declarations::RECORD_SIZE;
 use crate::error::Refusal;
 use crate::ffi;
 use crate::id::Id;
@@ -176,7 +177,7 @@ pub struct Entries<'a> {
 
 impl<'a> Entries<'a> {
     pub(crate) fn of(records: &'a [u8], paths: &'a [u8]) -> Entries<'a> {
-        Entries { records, paths, left: 0..records.len() / ffi::RECORD_SIZE }
+        Entries { records, paths, left: 0..records.len() / RECORD_SIZE }
     }
 
     /// How many entries come first whose paths pass a test, if all that pass it come first.

@@ -6,10 +6,8 @@ use crate::entry::{Entries, Entry, Stage};
 use crate::error::{Error, Refusal};
 use crate::extension::Extensions;
 use crate::ffi;
-use crate::stores::{self, Stores};
+use crate::stores::{self, Stores, TRAILER_SIZE};
 use crate::tree::{Tree, TreeFault};
-
-const TRAILER_SIZE: usize = 20;
 
 /// An index file that was read. It owns the file's bytes and its stores, and can be shared between threads.
 pub struct Index {

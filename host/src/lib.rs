@@ -33,6 +33,8 @@
     )
 )]
 
+#[allow(unsafe_code)]
+mod declarations;
 mod entry;
 mod error;
 mod extension;

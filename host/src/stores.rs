@@ -1,9 +1,11 @@
 //! The stores into which a file is read, and how large they must be.
+use crate::declarations::{ID_SIZE, NODE_SIZE, RECORD_SIZE};
 use crate::error::{Error, Refusal};
-use crate::ffi::{self, Values, NODE_SIZE, RECORD_SIZE};
+use crate::ffi::{self, Values};
 
 const HEADER_SIZE: usize = 12;
-const TRAILER_SIZE: usize = 20;
+/// The hash, or zeros.
+pub(crate) const TRAILER_SIZE: usize = ID_SIZE;
 /// An entry without its path.
 const FIXED_SIZE: usize = 62;
 /// The shortest node: an empty name, `-1 0` and a newline.

@@ -2,6 +2,7 @@
 use std::fmt;
 use std::ops::Range;
 
+use crate::declarations::NODE_SIZE;
 use crate::entry::Entries;
 use crate::ffi;
 use crate::id::Id;
@@ -47,7 +48,7 @@ impl<'a> Tree<'a> {
 
     /// How many nodes there are.
     pub fn len(&self) -> usize {
-        self.nodes.len() / ffi::NODE_SIZE
+        self.nodes.len() / NODE_SIZE
     }
 
     /// Whether there is none. A tree that was read has its root.
