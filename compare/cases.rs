@@ -203,7 +203,7 @@ impl Judge {
             }
             Case::Ieot(s) => {
                 let mut ours = library::ieot(s, 0);
-                // the same bytes behind others
+                // the same bytes after others
                 let shifted = [vec![b'x'; 37], s.clone()].concat();
                 if library::ieot(&shifted, 37) != ours {
                     self.fail("IEOT at an offset", &case.line(), "", "");
@@ -426,7 +426,7 @@ impl Judge {
         let past = (paths.len() as u64).saturating_add(far.saturating_add(1));
         records[at + 84..at + 92].copy_from_slice(&past.to_be_bytes());
         if far == 1 {
-            // an end before the start, both within the store's length or right behind it
+            // an end before the start, both within the store's length or right after it
             records[at + 76..at + 92].copy_from_slice(&[1u64.to_be_bytes(), 0u64.to_be_bytes()].concat());
         }
         self.class(if asked > 3 { "D14: a path outside; stage above 3" } else { "D14: a path outside" });

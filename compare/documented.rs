@@ -1,4 +1,4 @@
-//! The smallest inputs of docs/DIFFERENCES.md, each with the row under which the Rust parts from us, or none where both answer alike.
+//! The smallest inputs of docs/DIFFERENCES.md, each with the row under which the Rust differs from us, or none where both answer alike.
 use crate::cases::{unhex, Case};
 use crate::generate::{extension, header};
 use crate::model::{Entry, Row};

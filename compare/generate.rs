@@ -70,7 +70,7 @@ fn path(r: &mut Rng, long: bool) -> Vec<u8> {
     }
 }
 
-/// One entry as the file spells it, mostly rightly.
+/// One entry as the file spells it, mostly correctly.
 fn spell(r: &mut Rng, version: u32, previous: &mut Vec<u8>, path: Vec<u8>, odd: bool) -> Vec<u8> {
     let mut out = vec![];
     for i in 0..10 {
@@ -381,7 +381,7 @@ pub fn written_table(r: &mut Rng) -> Vec<Entry> {
     t
 }
 
-/// Changes a few bytes of a node table so that it may be proper no more: numbers that are just right or just wrong, at any place.
+/// Changes a few bytes of a node table so that it may no longer be proper: numbers that are just right or just wrong, at any place.
 pub fn spoil(r: &mut Rng, nodes: &mut Vec<u8>, names: &mut Vec<u8>) {
     match r.below(8) {
         0 => nodes.truncate(r.below(nodes.len() + 1)),

@@ -1,5 +1,5 @@
 //! Hostile input over the C boundary. Every lent slice, the eight values and the twenty bytes of an id too, ends right before a page that may not be touched; in a
-//! second turn it begins right behind one. So a byte read or written outside ends the process, which is a child of its own. What is lent to be read must stay as it
+//! second turn it begins right after one. So a byte read or written outside ends the process, which is a child of its own. What is lent to be read must stay as it
 //! was, and so must the bytes on the open side.
 use crate::declarations::*;
 use crate::generate::{self, Rng};
@@ -27,7 +27,7 @@ const MOST: usize = 1 << 20;
 
 #[derive(Clone, Copy, PartialEq, Debug)]
 pub enum Turn {
-    /// the page that may not be touched stands behind the slice
+    /// the page that may not be touched follows the slice
     Behind,
     Before,
 }
@@ -36,7 +36,7 @@ pub enum Turn {
 #[derive(Clone, Copy, PartialEq, Debug)]
 pub enum Fault {
     Nothing,
-    /// the harness reads one byte behind a slice, or one before it
+    /// the harness reads one byte after a slice, or one before it
     Touch,
     /// the library is told that a slice has one byte more, or begins one byte sooner
     Told,

@@ -177,7 +177,7 @@ fn node(nodes: &Store, i: usize, file: &[u8]) -> Option<Node> {
     Some(Node { start, end, count: v[2] as i64, subtrees: v[3], id, parent: v[4] })
 }
 
-/// Of a record and a node that are not there every value is 0.
+/// For a record and a node that are not there, every value is 0.
 pub fn absent_is_zero() -> bool {
     let (r, n) = (vec![SENTINEL; RECORD * 2 - 1], vec![SENTINEL; NODE * 2 - 1]);
     let (mut a, mut b, mut c, mut ids) = (Values::new(), Values::new(), Values::new(), [[SENTINEL; 20]; 2]);

@@ -1,7 +1,7 @@
 //! Compares the library with the Rust by running; `compare/run` builds and starts it.
 //!     compare [--oracle PROGRAM] [--answers FILE] [--differences FILE] [--git FOLDER] [--seed N] [--long] [--hostile [--rounds N]] [--self-test] [--make-answers]
 //! Every answer is compared twice: with document 01's rules, written once more in model.rs, answer, values and every byte lent; and with the Rust. Where the two
-//! part, a row of docs/DIFFERENCES.md has to say so, and what the Rust then answers; all else is a failure, printed with its input.
+//! differ, a row of docs/DIFFERENCES.md has to say so, and what the Rust then answers; all else is a failure, printed with its input.
 mod cases;
 #[path = "../host/src/declarations.rs"]
 mod declarations;
@@ -102,7 +102,7 @@ fn documented(j: &mut Judge, oracle: &Oracle) -> usize {
     all.len()
 }
 
-/// a. Generated files, each also asked for EOIE, and for IEOT behind the header.
+/// a. Generated files, each also asked for EOIE, and for IEOT after the header.
 fn files(j: &mut Judge, parts: &mut Judge, oracle: &Oracle, seed: u64, n: usize) {
     let mut r = Rng::new(seed);
     for some in (0..n).collect::<Vec<_>>().chunks(4000) {

@@ -1,5 +1,5 @@
 //! Document 01's reader once more, plainly, with the rows of docs/DIFFERENCES.md as switches: without them it says what the library must answer and leave in its
-//! stores, with them what the Rust answers. So a difference is known only if a rule says both sides of it.
+//! stores, with them what the Rust answers. So a difference is known only if a rule gives both sides of it.
 
 pub use crate::declarations::{NODE_SIZE as NODE, RECORD_SIZE as RECORD};
 
@@ -124,7 +124,7 @@ pub fn rust(file: &[u8]) -> Run {
     run(file, true, ALL)
 }
 
-/// What `sparrowpivot_entries` must answer of a file's entries alone: the run, and where the entries end.
+/// What `sparrowpivot_entries` must answer for a file's entries alone: the run, and where the entries end.
 pub fn entries(file: &[u8], version: u32, count: usize, rooms: Rooms) -> (Run, usize) {
     let mut w = Walk { file, rust: false, rooms, run: Run::default() };
     let next = w.entries(version, count).unwrap_or(0);

@@ -1,7 +1,7 @@
 //! The functions of the static library as `include/sparrowpivot.h` declares them, with the header's sizes and options:
 //! the one place where Rust declares them, for the crate, for `compare/` and for `bench/`. `tests/c_library` holds it
 //! against the header, the archive and the sources that the archive is made of.
-#![allow(dead_code)] // a program calls some of them
+#![allow(dead_code)] // no program calls them all
 
 /// The bytes of a record in its store.
 pub const RECORD_SIZE: usize = 96;
@@ -20,7 +20,7 @@ pub const WRITE_TREE: u32 = 2;
 pub const WRITE_EOIE: u32 = 4;
 /// The index is sparse.
 pub const WRITE_SPARSE: u32 = 8;
-/// Zeros stand in the place of the hash.
+/// Zeros are written in place of the hash.
 pub const WRITE_UNHASHED: u32 = 16;
 
 #[link(name = "sparrowpivot", kind = "static")]

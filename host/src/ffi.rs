@@ -3,7 +3,7 @@
 //! What holds at every call: a pointer and a count come from one slice, so they name bytes that are there and may be
 //! read; a store that is written comes from a `&mut`, so it may be written and nothing else overlaps it; no pointer is
 //! null, since slices and arrays never are; and every byte lent is initialised. The library is proved to read and write
-//! nothing but what it is lent, for all bytes, to keep no pointer, and to come to an end.
+//! nothing but what it is lent, for all bytes, to keep no pointer, and to end.
 use crate::declarations::*;
 use crate::error::Refusal;
 
@@ -37,8 +37,8 @@ pub(crate) fn read(file: &[u8], records: &mut [u8], paths: &mut [u8], nodes: &mu
     answer(|v| unsafe { sparrowpivot_read(f, fs, r, rs, p, ps, n, ns, v) })
 }
 
-/// Reads `count` entries into two stores, in any version but 4 as in 2 and 3. The place behind them, which is 12 where
-/// `count` is 0; path bytes; whether one is a directory.
+/// Reads `count` entries into two stores; any version but 4 is read as 2 and 3 are. The place after them, which is 12
+/// where `count` is 0; path bytes; whether one is a directory.
 pub(crate) fn entries(
     file: &[u8],
     version: u32,
@@ -53,11 +53,11 @@ pub(crate) fn entries(
 
 /// The most entries that a file of so many bytes can have.
 pub(crate) fn max_entries(file_size: usize) -> u64 {
-    // Sound: it is handed numbers alone.
+    // Sound: it is passed nothing but numbers.
     unsafe { sparrowpivot_max_entries(file_size, 0, 0, 0) }
 }
 
-/// Where extensions begin, if there is an EOIE that holds.
+/// Where extensions begin, if there is an EOIE and it is right.
 pub(crate) fn eoie(file: &[u8]) -> Option<u64> {
     let (f, fs) = shown(file);
     // Sound: the file is only read; `v` points to eight numbers.

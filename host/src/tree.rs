@@ -61,7 +61,7 @@ impl<'a> Tree<'a> {
         Nodes { tree: *self, left: 0..self.len() }
     }
 
-    /// Node i, from 0 on.
+    /// Node i, counted from 0.
     pub fn node(&self, i: usize) -> Option<Node<'a>> {
         let [start, end, count, subtrees, parent, ..] = ffi::node(self.nodes, i)?;
         // a count out of date is -1, which no count of 32 bits is
@@ -115,7 +115,7 @@ pub enum TreeFault {
     Malformed,
     /// Not as many entries lie below a folder as its node says.
     Count {
-        /// The folder's path with a slash behind it; empty for the root.
+        /// The folder's path with a slash after it; empty for the root.
         folder: Vec<u8>,
         /// The entries that its node counts.
         says: u32,

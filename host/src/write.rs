@@ -12,7 +12,7 @@ pub struct WriteOptions {
     pub tree: bool,
     /// EOIE, by which a reader finds extensions at once; it is left out where there is nothing to find.
     pub eoie: bool,
-    /// Twenty zeros in the place of the hash.
+    /// Twenty zeros in place of the hash.
     pub zero_trailer: bool,
 }
 

@@ -1,5 +1,5 @@
 # Read by the scripts that make index files with git (list_indexes, write_back): OUT/data, OUT/args and OUT/stdout begin anew, OUT being the script's first word, and each
-# index gets a repository of its own. Nothing depends on the machine, its user or a clock, and no entry has stat data, so that the same git makes the same bytes again.
+# index gets a repository of its own. Nothing depends on the machine, its user or a clock, so that the same git makes the same bytes again.
 umask 022
 mkdir -p "$1/data"
 out=$(cd "$1" && pwd)
