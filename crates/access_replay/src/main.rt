@@ -1,6 +1,6 @@
 // Replays what the Rust answers for the order check and for lookup. `stdin` is a list of cases, each with its length in two bytes before it: a letter, `v` for the
 // check, `l` for a lookup and `t` for the check and any number of lookups in one table; the number of records; each record's stage, its path's length and its path;
-// and then, for `l`, the stage and the path that are looked for; for `t`, each stage, path's length and path. tests/access_replay made the list and the answers of
+// and then, for `l`, the stage and the path that are looked for; for `t`, each stage, path's length and path. tests/make/access_replay made the list and the answers of
 // `stdout`.
 ghost use Prim.Native.Nat.{_*_, _<_};
 ghost use mathlib.Core.Path.{_≡_};

@@ -1,4 +1,4 @@
-// Replays answers of the Rust on short entry blocks: standard input has the cases that tests/chunk_cases made, each with the Rust's answer, its records and its
+// Replays answers of the Rust on short entry blocks: standard input has the cases that tests/make/decode_replay made, each with the Rust's answer, its records and its
 // paths. The program reads each block, compares all of that, and names the known differences (docs/DIFFERENCES.md) and any other case that parts.
 ghost use Prim.Native.Nat.{_<_, _≤_};
 use decode::entries::Answer;

@@ -1,5 +1,5 @@
 // Reads index files that git made and writes each back, with TREE only and the hash. Its arguments name them two by two: a file, and what the Rust wrote of it. What
-// it prints must be what tests/make-written, which made the files, says of the Rust's.
+// it prints must be what tests/make/write_back, which made the files, says of the Rust's.
 ghost use Rattle.io.specs.Counts.{Counts};
 use file::Answer as Got;
 use libc::STDOUT_FILENO;

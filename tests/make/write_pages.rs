@@ -1,5 +1,5 @@
 // What the Rust's writer makes of the tables of crates/write_pages (D10 to D13 of docs/DIFFERENCES.md), and whether its reader reads that; then what it does where we refuse a table (D14, 14, 15).
-// tests/make-pages builds and runs this over the oracle's build of gix-index 0.55.0. Each line: the page, the bytes (for long ones their number and SHA-1), and what the reader says of the
+// tests/make/write_pages builds and runs this over the oracle's build of gix-index 0.55.0. Each line: the page, the bytes (for long ones their number and SHA-1), and what the reader says of the
 // tree, or of the file; of a refused table what was answered, and how many bytes it had written.
 use gix_hash::{Kind::Sha1, ObjectId};
 use gix_index::{decode, entry, extension::Tree, write, State};
@@ -44,7 +44,13 @@ fn tree_page(page: &str, root: Tree) {
 }
 
 fn push(state: &mut State, mode: u32, path: &[u8]) {
-    state.dangerously_push_entry(entry::Stat::default(), ObjectId::null(Sha1), entry::Flags::empty(), entry::Mode::from_bits_retain(mode), path.into());
+    state.dangerously_push_entry(
+        entry::Stat::default(),
+        ObjectId::null(Sha1),
+        entry::Flags::empty(),
+        entry::Mode::from_bits_retain(mode),
+        path.into(),
+    );
 }
 
 /// Counts what is written.
@@ -76,7 +82,8 @@ fn outside_page(records: usize) {
     state.take_path_backing();
     let mut out = Sink(0);
     let order = answer(|| state.verify_entries());
-    let lookup = answer(|| Ok::<_, String>(state.entry_index_by_path_and_stage(b"a"[..].into(), entry::Stage::Unconflicted)));
+    let lookup =
+        answer(|| Ok::<_, String>(state.entry_index_by_path_and_stage(b"a"[..].into(), entry::Stage::Unconflicted)));
     let written = answer(|| state.write_to(&mut out, write::Options::default()));
     println!("D14, records {records}: order {order}; lookup {lookup}; write {written}, {} bytes written", out.0);
 }
@@ -117,7 +124,12 @@ fn main() {
     }
     let file = written(&state);
     let back = if read(&file).is_ok() { "it is read back" } else { "it is not read back" };
-    println!("D12, D13: {} bytes, sha1 {}; the second entry's head {}; {back}", file.len(), hash(&file), hex(&file[4172..4234]));
+    println!(
+        "D12, D13: {} bytes, sha1 {}; the second entry's head {}; {back}",
+        file.len(),
+        hash(&file),
+        hex(&file[4172..4234])
+    );
 
     std::panic::set_hook(Box::new(|_| ()));
     outside_page(1);
