@@ -77,6 +77,7 @@ uint32_t sparrowpivot_read(const uint8_t *file, size_t file_len, uint8_t *record
 
 /*
  * Reads `count` entries, which begin behind the file's header, into two stores. Neither header nor trailer is looked at; the entries end before the last 20 bytes.
+ * Version 4 is read as 4, and any other number as 2 and 3 are. A count of 0 looks at nothing, and the place is then 12, even if the file is shorter.
  * 0: the place in the file behind the entries; path bytes used; 0 or 1, one entry is a directory. Or 5 or 6.
  */
 uint32_t sparrowpivot_entries(const uint8_t *file, size_t file_len, uint32_t version, size_t count, uint8_t *records, size_t records_len, uint8_t *paths,
@@ -143,7 +144,10 @@ void sparrowpivot_record_id(const uint8_t *records, size_t records_len, size_t i
  */
 uint32_t sparrowpivot_node(const uint8_t *nodes, size_t nodes_len, size_t i, uint64_t values[SPARROWPIVOT_VALUES]);
 
-/* The id of node i; zeros where it has none, or where there is no such node. */
+/*
+ * The id of node i, as the store has it; zeros where there is no such node. A node that was read and has no id (its count is -1) has zeros in the store; of one that was put together
+ * otherwise whatever stands there is shown.
+ */
 void sparrowpivot_node_id(const uint8_t *nodes, size_t nodes_len, size_t i, uint8_t out[SPARROWPIVOT_ID_SIZE]);
 
 #ifdef __cplusplus

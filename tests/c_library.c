@@ -459,6 +459,12 @@ static void test_entries(void)
     e = eight();
     check("entries", sparrowpivot_entries(file.p, file.n, 2, 1, records.p, records.n, paths.p, paths.n, e.v), 0);
     values("entries", &e, 84, 4, 1, 0, 0, 0, 0, 0);
+    e = eight();
+    check("entries of version 77", sparrowpivot_entries(file.p, file.n, 77, 1, records.p, records.n, paths.p, paths.n, e.v), 0);
+    values("entries of version 77", &e, 84, 4, 1, 0, 0, 0, 0, 0);
+    e = eight();
+    check("no entries of 11 bytes", sparrowpivot_entries(file.p, 11, 2, 0, records.p, records.n, paths.p, paths.n, e.v), 0);
+    values("no entries of 11 bytes", &e, 12, 0, 0, 0, 0, 0, 0, 0);
     give_back_read("entries", &file);
     give_back("entries", &records);
     give_back("entries", &paths);
@@ -842,6 +848,15 @@ static void test_nodes(void)
     check("node id", not_byte(&out, 0x33), 0);
     sparrowpivot_node_id(nodes.p, nodes.n, 3, out.p);
     check("node id", not_zero(&out), 0);
+    give_back_read("nodes", &nodes);
+    /* the last 32 bytes of a node are its id's place */
+    memset(s.nodes.p + 3 * NODE - 32, 0x55, 32);
+    nodes = lend(s.nodes.p, s.nodes.n);
+    e = eight();
+    check("node of count -1, made by hand", sparrowpivot_node(nodes.p, nodes.n, 2, e.v), 0);
+    values("node of count -1, made by hand", &e, 207, 208, SPARROWPIVOT_MINUS_ONE, 0, 0, 1, 0, 0);
+    sparrowpivot_node_id(nodes.p, nodes.n, 2, out.p);
+    check("node of count -1, made by hand", not_byte(&out, 0x55), 0);
     give_back_read("nodes", &nodes);
     give_back("node id", &out);
     end_stores("nodes", &s);

@@ -112,7 +112,8 @@ pub(crate) fn read(file: &[u8], records: &mut [u8], paths: &mut [u8], nodes: &mu
     answer(|v| unsafe { sparrowpivot_read(f, fs, r, rs, p, ps, n, ns, v) })
 }
 
-/// Reads `count` entries into two stores. The place behind them; path bytes; whether one is a directory.
+/// Reads `count` entries into two stores, in any version but 4 as in 2 and 3. The place behind them, which is 12 where
+/// `count` is 0; path bytes; whether one is a directory.
 pub(crate) fn entries(
     file: &[u8],
     version: u32,
@@ -185,7 +186,7 @@ pub(crate) fn node(nodes: &[u8], i: usize) -> Option<Values> {
     (values[5] == 1).then_some(values)
 }
 
-/// The id of node i; zeros where it has none.
+/// The id of node i as the store has it: zeros for a node that was read and has none, or that is not there.
 pub(crate) fn node_id(nodes: &[u8], i: usize) -> [u8; 20] {
     let ((n, ns), mut id) = (shown(nodes), [0; 20]);
     // Sound: the slice is only read, any `i` may be asked for, and just the 20 bytes of an id are written.

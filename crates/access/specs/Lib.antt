@@ -6,4 +6,5 @@ pub mod Laws
 pub mod Steps
 pub mod Sorted
 pub mod Finds
+pub mod Comes
 pub mod Marked

@@ -1,6 +1,7 @@
--- DEMAND 3, on whole files. With a good header, a good trailer, room for the entries before the first not spelled and a walk of the last TREE that stays within the depth limit and the nodes
--- lent: the reader accepts a file exactly if the grammar spells it; answer and stores are the rendering of the one meaning; and each refusal is given exactly when. Assumes that the
--- file is bytes and that no slice has 2^64 bytes or more, the premise `Slices`.
+-- DEMAND 3, on whole files. With a good trailer, room for the entries before the first not spelled and a walk of the last TREE that stays within the depth limit and the nodes lent: the
+-- reader accepts a file exactly if the grammar spells it, and answer and stores are the rendering of the one meaning. With that trailer, that room and a good header, 5 is given exactly when;
+-- each other refusal is given exactly when, and what is read is spelled and rendered, whatever the file and the stores. Assumes that the file is bytes and that no slice has 2^64 bytes or
+-- more, the premise `Slices`.
 use Prim.Native.Nat.{ℕ, _+_, _≤_, _<_}
 use mathlib.Core.Path.{_≡_, refl, sym, ap, _∙_, subst}
 use mathlib.Core.Bool.{Bool, true, false}
@@ -18,16 +19,17 @@ use Rattle.grammar.specs.Entry.{Meaning, start, Entries}
 use Rattle.grammar.specs.Extension.{Ext, TREE, Extensions, NoneSigned, LastSigned}
 use Rattle.grammar.specs.Tree.{Tree, nodes}
 use Rattle.grammar.specs.File.{Index, DIRC, headerLength, Supported, Sparse, Tells, CacheTree, spelled, malformed, absent, File, versionOf, countOf, space, GoodHeader}
-use Rattle.grammar.specs.Space.{Spells, spells, spelled-in-space, space-spelled}
+use Rattle.grammar.specs.Space.{Spells, spells, spelled-has-good-header, spelled-in-space, space-spelled}
 use Rattle.grammar.specs.Fault.{stray, refused, Faulty}
 use Rattle.grammar.specs.Reach.{depth-within, nodes-within}
 use Rattle.grammar.specs.Unique.{one-meaning}
 use Rattle.claims_entries.specs.Rendering.{recordsBytes, pathsBytes}
 use Rattle.claims_entries.specs.Said.{filled, StopsAt, RoomFor, LacksRoomAt}
+use Rattle.claims_entries.specs.Fields.{spelled-length}
 use Rattle.claims_tree.specs.Rendering.{treeBytes}
 use Rattle.claims_tree.specs.Said.{zeroed, lent, GoesTooDeep, UsesUp, SpellsTree, KeepsWithinDepth, HasRoom}
 use Rattle.claims.specs.Premises.{Slices, GoodTrailer}
-use Rattle.claims.specs.Said.{Opened, holding, AllEntries, WithTree, SaysFile, says-short, says-no-signature, says-other-version, says-bad-trailer, says-not-spelled, says-no-entry-room, says-not-filled, says-mandatory, says-no-TREE, says-tree, says-malformed, says-too-deep, says-no-node-room}
+use Rattle.claims.specs.Said.{Opened, holding, holdingAll, readAs, AllEntries, WithTree, SaysFile, says-short, says-no-signature, says-other-version, says-bad-trailer, says-not-spelled, says-no-entry-room, says-not-filled, says-mandatory, says-no-TREE, says-tree, says-malformed, says-too-deep, says-no-node-room}
 use Rattle.claims.specs.Reading as reader
 
 -- ---- of the file, in the grammar's terms
@@ -68,8 +70,8 @@ abbrev pub nodesOf : Option Tree → ℕ
 nodesOf (some t) = nodes t
 nodesOf none = 0
 
-abbrev pub answerOf : List ℕ → Index → Answer
-answerOf s m = answer.Read (m .version) (m .sparse) (hasTree (m .tree)) (countOf s) (length (pathsBytes (m .entries))) (nodesOf (m .tree))
+abbrev pub answerOf : Index → Answer
+answerOf m = answer.Read (m .version) (m .sparse) (hasTree (m .tree)) (length (m .entries)) (length (pathsBytes (m .entries))) (nodesOf (m .tree))
 
 -- the node store: the tree's nodes in front; zeros where the last TREE spells none; as it was where there is no TREE
 pub data NodesAfter (s ns : List ℕ) : Option Tree → List ℕ → Type 0 where
@@ -78,7 +80,7 @@ pub data NodesAfter (s ns : List ℕ) : Option Tree → List ℕ → Type 0 wher
   no-TREE-there : NoTREE s → NodesAfter s ns none ns
 
 pub record Renders (s rs ps ns : List ℕ) (m : Index) (o : Outcome) : Type 0 where
-  pub answer : o .answer ≡ answerOf s m
+  pub answer : o .answer ≡ answerOf m
   pub records : o .records ≡ filled rs (recordsBytes idSize 0 (m .entries))
   pub paths : o .paths ≡ filled ps (pathsBytes (m .entries))
   pub nodes : NodesAfter s ns (m .tree) (o .nodes)
@@ -98,15 +100,14 @@ module _ (s rs ps ns : List ℕ) (slices : Slices s ps ns) where
   only = reader.no-second-answer s rs ps ns slices
 
   -- what is said of an answer that is given
+  given : {a : Answer} → reading .answer ≡ a → reading ≡ outcome a (reading .records) (reading .paths) (reading .nodes)
+  given q = λ i. outcome (q i) (reading .records) (reading .paths) (reading .nodes)
+
   told : {a : Answer} → reading .answer ≡ a → SaysFile s rs ps ns (outcome a (reading .records) (reading .paths) (reading .nodes))
-  told q = subst (SaysFile s rs ps ns) (λ i. outcome (q i) (reading .records) (reading .paths) (reading .nodes)) says
+  told q = subst (SaysFile s rs ps ns) (given q) says
 
   gives : {o : Outcome} → SaysFile s rs ps ns o → reading .answer ≡ o .answer
   gives x = ap (λ (o : Outcome). o .answer) (only x)
-
-  -- whatever a reader leaves that meets its contract
-  pub contract-says : (a : Answer) (rs′ ps′ ns′ : List ℕ) → outcome a rs′ ps′ ns′ ≡ reading → SaysFile s rs ps ns (outcome a rs′ ps′ ns′)
-  contract-says a rs′ ps′ ns′ e = subst (SaysFile s rs ps ns) (sym e) says
 
   -- ---- 1 to 4
   pub refusal-1-exactly : (reading .answer ≡ answer.ShortFile) ↔ (length s < headerLength + idSize)
@@ -176,7 +177,7 @@ module _ (s rs ps ns : List ℕ) (slices : Slices s ps ns) where
       to : {r p n : List ℕ} → SaysFile s rs ps ns (outcome answer.NoNodeRoom r p n) → Opened s × BehindIsTREE (λ place body. UsesUp idSize body (lent ns) × ¬ GoesTooDeep idSize body depthLimit (lent ns))
       to (says-no-node-room o {b = b} {c = c} {ms = ms} {es = es} {sparse = sparse} {place = place} {body = body} w u d) = (o, (b, c, ms, es, sparse, place, body, w, (u, d)))
 
-  -- ---- DEMAND 3, under its premises
+  -- ---- 5, with a good header, a good trailer and room for the entries before the first not spelled
   module _ (open-file : Opened s) (room : RoomFor idSize (versionOf s) (space idSize s) (countOf s) rs ps) where
     -- refusal 5 names k exactly when the first k entries can be spelled and the next, still within the header's count, cannot
     pub refusal-5-exactly : (k : ℕ) → (reading .answer ≡ answer.NotSpelled k) ↔ StopsAt idSize (versionOf s) (space idSize s) (countOf s) k
@@ -189,60 +190,72 @@ module _ (s rs ps ns : List ℕ) (slices : Slices s ps ns) where
     pub refusal-5-stores : (k : ℕ) (x : StopsAt idSize (versionOf s) (space idSize s) (countOf s) k) → reading ≡ holding s rs ps ns (x .1 .0) (answer.NotSpelled k)
     refusal-5-stores k (h, (ms, rest, (b, i, x), none-left)) = only (says-not-spelled open-file rest h i x (room k ms rest (omega arith) (b, i, x)) none-left)
 
-    module _ (tree-fits : TreeFits s ns) where
-      -- what is spelled is said
-      of-spelled : (m : Index) → Spells idSize (versionOf s) (countOf s) (space idSize s) m → (o : Outcome) × SaysFile s rs ps ns o × Renders s rs ps ns m o
-      of-spelled m (spells {b = b} {c = c} {ms = ms} {es = es} {sparse = sparse} i x y t z) = go z
-        where
-          all : AllEntries s rs ps ns b c ms
-          all = record { joins = i; spelled = x; fits = room (countOf s) ms c (omega arith) (b, i, x) }
+  -- ---- what is read has one meaning, and the reader's answer and all three stores are its rendering
+  pub accepted-is-the-one-meaning : IsRead (reading .answer) → (m : Index) × File idSize s m × Renders s rs ps ns m reading × ((o : Index) → File idSize s o → o ≡ m)
+  accepted-is-the-one-meaning (v, a, t, r, p, n, q) =
+      let (m, x, y) = to (told q) in
+      (m, x, subst (Renders s rs ps ns m) (sym (given q)) y, (λ o z. one-meaning idSize s o m z x))
+    where
+      rendered : Opened s → {b c : List ℕ} {ms : List Meaning} {es : List Ext} {sparse : Bool} {tree : Option Tree} {l : List ℕ} → AllEntries s rs ps ns b c ms → Extensions c es
+          → Tells (Sparse ms es) sparse → CacheTree idSize (headerLength + length b) es tree → NodesAfter s ns tree l
+          → (m : Index) × File idSize s m × Renders s rs ps ns m (holdingAll s rs ps ns ms l (readAs s rs ps ns sparse (hasTree tree) ms (nodesOf tree)))
+      rendered o {ms = ms} {sparse = sparse} {tree = tree} a y t z l = (
+        _,
+        space-spelled (o .header) (spells (a .joins) (a .spelled) y t z),
+        record {
+          answer = ap (λ (k : ℕ). answer.Read (versionOf s) sparse (hasTree tree) k (length (pathsBytes ms)) (nodesOf tree)) (sym (spelled-length (a .spelled)));
+          records = refl;
+          paths = refl;
+          nodes = l;
+        },
+      )
 
-          lying : {place : ℕ} {body : List ℕ} → LastSigned TREE (headerLength + length b) es place body → LastTREE s place body
-          lying l = record { b = b; c = c; ms = ms; es = es; joins = i; entries = x; extensions = y; last = l }
+      lying : {b c : List ℕ} {ms : List Meaning} {es : List Ext} {sparse : Bool} {place : ℕ} {body : List ℕ} → WithTree s rs ps ns b c ms es sparse place body → LastTREE s place body
+      lying {b} {c} {ms} {es} w = record { b = b; c = c; ms = ms; es = es; joins = w .entries .joins; entries = w .entries .spelled; extensions = w .extensions; last = w .last }
 
-          within : {place : ℕ} {body : List ℕ} → LastSigned TREE (headerLength + length b) es place body → WithTree s rs ps ns b c ms es sparse place body
-          within l = record { entries = all; extensions = y; mark = t; last = l }
+      to : {v : ℕ} {sparse tree : Bool} {r p n : ℕ} {rs₁ ps₁ ns₁ : List ℕ} → SaysFile s rs ps ns (outcome (answer.Read v sparse tree r p n) rs₁ ps₁ ns₁)
+          → (m : Index) × File idSize s m × Renders s rs ps ns m (outcome (answer.Read v sparse tree r p n) rs₁ ps₁ ns₁)
+      to (says-no-TREE o {b = b} {c = c} {ms = ms} {es = es} a y t f) =
+          rendered o a y t (absent f) (no-TREE-there (record { b = b; c = c; ms = ms; es = es; joins = a .joins; entries = a .spelled; extensions = y; no-last = f }))
+      to (says-tree o w x h k) = rendered o (w .entries) (w .extensions) (w .mark) (spelled (w .last) x) the-tree
+      to (says-malformed o w f d e) = rendered o (w .entries) (w .extensions) (w .mark) (malformed (w .last) (λ v x. f (v, x))) (no-tree-spelled (lying w) f)
 
-          go : {tree : Option Tree} → CacheTree idSize (headerLength + length b) es tree
-              → (o : Outcome) × SaysFile s rs ps ns o × Renders s rs ps ns (record { version = versionOf s; sparse = sparse; entries = ms; tree = tree }) o
-          go (spelled {place = place} {body = body} {t = v} l n) =
-              let (shallow, lent-enough) = tree-fits place body (lying l) in (
-                _,
-                says-tree open-file (within l) n (depth-within idSize body place v n depthLimit .0 shallow) (nodes-within idSize body place v n (lent ns) .0 lent-enough),
-                record { answer = refl; records = refl; paths = refl; nodes = the-tree },
-              )
-          go (malformed {place = place} {body = body} l f) =
-              let (shallow, lent-enough) = tree-fits place body (lying l) in
-              let none-there : ¬ SpellsTree idSize place body = λ (v, n). f v n in (
-                _,
-                says-malformed open-file (within l) none-there (λ (k, h, r). shallow k r) (λ (d, r). lent-enough d r),
-                record { answer = refl; records = refl; paths = refl; nodes = no-tree-spelled (lying l) none-there },
-              )
-          go (absent n) = (
-            _,
-            says-no-TREE open-file all y t n,
-            record { answer = refl; records = refl; paths = refl; nodes = no-TREE-there (record { b = b; c = c; ms = ms; es = es; joins = i; entries = x; extensions = y; no-last = n }) },
-          )
+  -- ---- DEMAND 3, under its premises
+  module _ (good-trailer : GoodTrailer s) (room : RoomFor idSize (versionOf s) (space idSize s) (countOf s) rs ps) (tree-fits : TreeFits s ns) where
+    -- what is spelled is read: its header is good
+    spelled-is-read : (m : Index) → File idSize s m → IsRead (reading .answer)
+    spelled-is-read m f = of (spelled-in-space f)
+      where
+        open-file : Opened s
+        open-file = record { header = spelled-has-good-header f; trailer = good-trailer }
 
-      -- 3: the reader's answer and all three stores are the rendering of the meaning
-      pub stores-are-the-meaning : (m : Index) → File idSize s m → Renders s rs ps ns m reading
-      stores-are-the-meaning m x = let (o, y, z) = of-spelled m (spelled-in-space x) in subst (Renders s rs ps ns m) (sym (only y)) z
+        of : {m : Index} → Spells idSize (versionOf s) (countOf s) (space idSize s) m → IsRead (reading .answer)
+        of (spells {b = b} {c = c} {ms = ms} {es = es} {sparse = sparse} i x y t z) = go z
+          where
+            all : AllEntries s rs ps ns b c ms
+            all = record { joins = i; spelled = x; fits = room (countOf s) ms c (omega arith) (b, i, x) }
 
-      -- 1: the reader accepts the file exactly if the grammar spells it
-      pub accepted-exactly-if-spelled : IsRead (reading .answer) ↔ ((m : Index) × File idSize s m)
-      accepted-exactly-if-spelled = ((λ (v, a, t, r, p, n, q). to (told q)), (λ (m, x). (_, _, _, _, _, _, stores-are-the-meaning m x .answer)))
-        where
-          indexed : {b c : List ℕ} {ms : List Meaning} {es : List Ext} {sparse : Bool} {tree : Option Tree} → AllEntries s rs ps ns b c ms → Extensions c es → Tells (Sparse ms es) sparse
-              → CacheTree idSize (headerLength + length b) es tree → (m : Index) × File idSize s m
-          indexed a y t z = (_, space-spelled (open-file .header) (spells (a .joins) (a .spelled) y t z))
+            lying : {place : ℕ} {body : List ℕ} → LastSigned TREE (headerLength + length b) es place body → LastTREE s place body
+            lying l = record { b = b; c = c; ms = ms; es = es; joins = i; entries = x; extensions = y; last = l }
 
-          to : {v : ℕ} {sparse tree : Bool} {r p n : ℕ} {rs₁ ps₁ ns₁ : List ℕ} → SaysFile s rs ps ns (outcome (answer.Read v sparse tree r p n) rs₁ ps₁ ns₁) → (m : Index) × File idSize s m
-          to (says-no-TREE o a y t none-signed) = indexed a y t (absent none-signed)
-          to (says-tree o w x h k) = indexed (w .entries) (w .extensions) (w .mark) (spelled (w .last) x)
-          to (says-malformed o w f d e) = indexed (w .entries) (w .extensions) (w .mark) (malformed (w .last) (λ v x. f (v, x)))
+            within : {place : ℕ} {body : List ℕ} → LastSigned TREE (headerLength + length b) es place body → WithTree s rs ps ns b c ms es sparse place body
+            within l = record { entries = all; extensions = y; mark = t; last = l }
 
-      -- 2 is the grammar's own: `one-meaning`. So what is accepted has one meaning, and the stores hold that
-      pub accepted-is-the-one-meaning : IsRead (reading .answer) → (m : Index) × File idSize s m × Renders s rs ps ns m reading × ((o : Index) → File idSize s o → o ≡ m)
-      accepted-is-the-one-meaning q =
-          let (m, x) = accepted-exactly-if-spelled .0 q in
-          (m, x, stores-are-the-meaning m x, (λ o y. one-meaning idSize s o m y x))
+            go : {tree : Option Tree} → CacheTree idSize (headerLength + length b) es tree → IsRead (reading .answer)
+            go (spelled {place = place} {body = body} {t = v} l n) =
+                let (shallow, lent-enough) = tree-fits place body (lying l) in
+                (_, _, _, _, _, _, gives (says-tree open-file (within l) n (depth-within idSize body place v n depthLimit .0 shallow) (nodes-within idSize body place v n (lent ns) .0 lent-enough)))
+            go (malformed {place = place} {body = body} l f) =
+                let (shallow, lent-enough) = tree-fits place body (lying l) in
+                (_, _, _, _, _, _, gives (says-malformed open-file (within l) (λ (v, n). f v n) (λ (k, h, r). shallow k r) (λ (d, r). lent-enough d r)))
+            go (absent n) = (_, _, _, _, _, _, gives (says-no-TREE open-file all y t n))
+
+    -- 1: the reader accepts the file exactly if the grammar spells it
+    pub accepted-exactly-if-spelled : IsRead (reading .answer) ↔ ((m : Index) × File idSize s m)
+    accepted-exactly-if-spelled = ((λ q. let (m, x, y, z) = accepted-is-the-one-meaning q in (m, x)), (λ (m, x). spelled-is-read m x))
+
+    -- 2 is the grammar's own: `one-meaning`. 3: the reader's answer and all three stores are the rendering of that meaning
+    pub stores-are-the-meaning : (m : Index) → File idSize s m → Renders s rs ps ns m reading
+    stores-are-the-meaning m x =
+        let (o, y, z, one) = accepted-is-the-one-meaning (spelled-is-read m x) in
+        subst (λ (i : Index). Renders s rs ps ns i reading) (sym (one m x)) z

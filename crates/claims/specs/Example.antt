@@ -16,9 +16,8 @@ use Rattle.grammar.specs.Fault.{extensions-length}
 use Rattle.claims_entries.specs.Rendering.{pathsBytes}
 use Rattle.claims_entries.specs.Said.{RoomFor}
 use Rattle.claims_extension.specs.Words.{allBytes, bytes-if}
-use Rattle.claims.specs.Premises.{Slices, zeros}
+use Rattle.claims.specs.Premises.{Slices, GoodTrailer, zeros}
 use Rattle.claims.specs.Marked.{least-file}
-use Rattle.claims.specs.Said.{Opened}
 use Rattle.claims.specs.Claims.{TreeFits, IsRead, accepted-exactly-if-spelled}
 
 -- two records, ten path bytes and one node are lent
@@ -35,8 +34,8 @@ slices : Slices least-file paths nodes
 unfolding allBytes
 slices = record { bytes = bytes-if least-file refl; file = lit< tt; paths = lit< tt; nodes = lit< tt }
 
-opened : Opened least-file
-opened = record { header = record { long = lit≤ tt; signature = refl; version = record { oldest = lit≤ tt; newest = lit≤ tt } }; trailer = zeros refl }
+good-trailer : GoodTrailer least-file
+good-trailer = zeros refl
 
 -- no entry comes before the first not spelled, for there is none
 room : RoomFor idSize 2 (space idSize least-file) 0 records paths
@@ -60,4 +59,4 @@ tree-fits place body x =
 
 -- so the claims speak of it
 pub claimed : IsRead (readFile 20 64 least-file records paths nodes .answer) ↔ ((m : Index) × File idSize least-file m)
-claimed = accepted-exactly-if-spelled least-file records paths nodes slices opened room tree-fits
+claimed = accepted-exactly-if-spelled least-file records paths nodes slices good-trailer room tree-fits

@@ -78,15 +78,28 @@ lentPaths = replicate 10 9
 abbrev lentNodes : List ℕ
 lentNodes = replicate 100 9
 
-abbrev untouched : Answer → Outcome
+abbrev pub untouched : Answer → Outcome
 untouched a = outcome a lentRecords lentPaths lentNodes
 
 abbrev numbered : Outcome → Said
 numbered o = reads (numberOf (o .answer)) o
 
 -- the fixed part of an entry: forty bytes of numbers, an id, and the flags
-abbrev fixed : ℕ → List ℕ
+abbrev pub fixed : ℕ → List ℕ
 fixed flags = replicate 60 1 ++ (flags / 256 ∷ flags % 256 ∷ [])
+
+-- the bytes of each page on an entry
+abbrev pub plainBytes : ℕ → ℕ → List ℕ
+plainBytes n field = fixed field ++ replicate n 97 ++ replicate 8 0
+
+abbrev pub widerBytes : ℕ → ℕ → List ℕ
+widerBytes n field = fixed (16384 + field) ++ (0 ∷ 0 ∷ []) ++ replicate n 97 ++ replicate 8 0
+
+abbrev pub strippedBytes : ℕ → List ℕ → List ℕ
+strippedBytes strip suffix = fixed 0 ++ (strip ∷ suffix) ++ (0 ∷ [])
+
+abbrev pub bitsBytes : ℕ → List ℕ
+bitsBytes more = fixed 16385 ++ (more / 256 ∷ more % 256 ∷ []) ++ replicate 9 97
 
 -- the measure of the entry that a file of version v is but for its trailer, after a path of so many bytes
 abbrev whole : List ℕ → ℕ → ℕ → Measured
@@ -112,16 +125,13 @@ flagsOf (Entry f k p l x) = passes f
 flagsOf Short = refuses
 flagsOf Fault = refuses
 
-abbrev stripped : ℕ → List ℕ → List ℕ
-stripped strip suffix = fixed 0 ++ (strip ∷ suffix) ++ (0 ∷ [])
-
 pub answer : Asked → Said
 answer (file s) = numbered (readFile idSize depthLimit s lentRecords lentPaths lentNodes)
-answer (plain n field) = lengths 62 n (whole (fixed field ++ replicate n 97 ++ replicate 8 0) 3 0)
-answer (wider n field) = lengths 64 n (whole (fixed (16384 + field) ++ (0 ∷ 0 ∷ []) ++ replicate n 97 ++ replicate 8 0) 3 0)
+answer (plain n field) = lengths 62 n (whole (plainBytes n field) 3 0)
+answer (wider n field) = lengths 64 n (whole (widerBytes n field) 3 0)
 answer (groups s) = value (numberAt s 0 (length s))
-answer (after before strip suffix) = pathOf (stripped strip suffix) before (whole (stripped strip suffix) 4 (length before))
-answer (bits more) = flagsOf (whole (fixed 16385 ++ (more / 256 ∷ more % 256 ∷ []) ++ replicate 9 97) 3 0)
+answer (after before strip suffix) = pathOf (strippedBytes strip suffix) before (whole (strippedBytes strip suffix) 4 (length before))
+answer (bits more) = flagsOf (whole (bitsBytes more) 3 0)
 answer (fileSize n) = atMost (maxEntries n NotTold 2 idSize)
 answer (order rs ps) = checked (verifyAt rs ps)
 
@@ -131,7 +141,7 @@ pub record Page : Type 0 where
   pub asked : Asked
   pub said : Said
 
-page : Asked → Said → Page
+unfoldable pub page : Asked → Said → Page
 page q a = record { asked = q; said = a }
 
 -- "DIRC", version 2, count 0, 20 zeros
@@ -139,16 +149,16 @@ abbrev pub least-file : List ℕ
 least-file = (68 ∷ 73 ∷ 82 ∷ 67 ∷ []) ++ (0 ∷ 0 ∷ 0 ∷ 2 ∷ []) ++ (0 ∷ 0 ∷ 0 ∷ 0 ∷ []) ++ replicate 20 0
 
 -- "exhibit/pair", "exhibit/pear", "ear"
-pair : List ℕ
+unfoldable pub pair : List ℕ
 pair = 101 ∷ 120 ∷ 104 ∷ 105 ∷ 98 ∷ 105 ∷ 116 ∷ 47 ∷ 112 ∷ 97 ∷ 105 ∷ 114 ∷ []
 
-pear : List ℕ
+unfoldable pub pear : List ℕ
 pear = 101 ∷ 120 ∷ 104 ∷ 105 ∷ 98 ∷ 105 ∷ 116 ∷ 47 ∷ 112 ∷ 101 ∷ 97 ∷ 114 ∷ []
 
-ear : List ℕ
+unfoldable pub ear : List ℕ
 ear = 101 ∷ 97 ∷ 114 ∷ []
 
-pub pages : List Page
+unfoldable pub pages : List Page
 pages =
     -- 31 bytes: 1. "DIRC", version 2, count 0, 20 zeros (32 bytes): read, no entries
     page (file (replicate 31 0)) (reads 1 (untouched ShortFile))

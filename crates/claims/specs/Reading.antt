@@ -122,10 +122,10 @@ module _ (s rs ps ns : List ℕ) (slices : Slices s ps ns) where
       stop : ℕ
       stop = place + length body
 
-      at-its-place : BodyAt s end place body
+      pub at-its-place : BodyAt s end place body
       at-its-place = extensions.body-is-the-bytes s (slices .bytes) next end ahead inside es (subst (λ (z : List ℕ). Extensions z es) (sym behind) x) place body l
 
-      tree-is : {p : TreeAnswer × List ℕ} → tree.SaysReadTree idSize place body depthLimit ns p → readTree 20 64 s place (place + length body) ns ≡ p
+      pub tree-is : {p : TreeAnswer × List ℕ} → tree.SaysReadTree idSize place body depthLimit ns p → readTree 20 64 s place (place + length body) ns ≡ p
       tree-is {p} y =
           trees.no-second-answer 20 (lit≤ tt) 64 s place (place + length body) ns (omega (arith, at-its-place .fits)) (slices .file) (slices .nodes)
           (subst (λ (z : List ℕ). tree.SaysReadTree idSize place z depthLimit ns p) (sym (at-its-place .is)) y)

@@ -18,7 +18,7 @@ use Rattle.wire.specs.Places.{fileAt, pathAt}
 use Rattle.wire.specs.declared.FileAt.{FileAt}
 use Rattle.wire.specs.declared.PathAt.{PathAt}
 use Rattle.format.specs.Format.{idSize}
-use Rattle.decode.specs.Entries.{Outcome, outcome, run, least, readEntries}
+use Rattle.decode.specs.Entries.{Outcome, run, least, readEntries}
 use Rattle.decode.specs.declared.entries.Answer.{Answer}
 use Rattle.decode.specs.declared.entries.Answer.the-variants.{Done, NotSpelled, NoRoom}
 use Rattle.grammar.specs.Entry.{Meaning, start, Entry, Entries}
@@ -139,10 +139,6 @@ module _ (file : List ℕ) (bytes : Bytes file) (version from end count : ℕ) (
   answer-says = let (o, x) = some-answer in rw (no-second-answer x) x
 
   -- ---- THE THEOREMS
-
-  -- whatever a reader leaves that meets its contract
-  pub contract-says : (a : Answer) (rs′ ps′ : List ℕ) → outcome a rs′ ps′ ≡ reading → SaysRead idSize version from space count rs ps (outcome a rs′ ps′)
-  contract-says a rs′ ps′ e = rw e answer-says
 
   -- the answer and both stores are the rendering of the meaning
   pub stores-are-the-meaning : RoomFor idSize version space count rs ps → (ms : List Meaning) (rest : List ℕ) (x : Begins (Entries idSize version start count) space ms rest)

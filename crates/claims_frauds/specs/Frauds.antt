@@ -6,9 +6,12 @@ use mathlib.Core.List.{List, [], _∷_, flatten}
 use mathlib.Core.Logic.{⊎-elim}
 use native.Mathlib.Omega.{arith}
 use lib.Dec.{lit≤, lit<}
-use lib.ListN.{length, take, drop, replicate, length-append, take-append-drop}
+use lib.ListN.{length, take, drop, length-append, take-append-drop}
 use lib.Seq.{take-take}
+use Rattle.laws.specs.Pick.{pick}
 use Rattle.laws.specs.Tests.{lt-or-ge}
+use Rattle.slices.specs.Bytes.{sameBytes}
+use Rattle.slices.specs.Laws.{same-equal}
 use Rattle.sha1.specs.Pieces as pieces
 use Rattle.sha1.specs.declared.Digest.{Digest}
 use Rattle.access.specs.Lookup.{lookupAt}
@@ -22,7 +25,6 @@ use Rattle.file.specs.Read as reading
 use Rattle.file.specs.declared.Answer.{Answer}
 use Rattle.file.specs.declared.Answer.the-variants.{Read}
 use Rattle.write.specs.File as writing
-use Rattle.write.specs.declared.Options.{Options}
 use Rattle.write.specs.declared.Answer.the-variants.{Done}
 use Rattle.claims_entries.specs.Rendering.{Bytes}
 use Rattle.claims_entries.specs.Fields.{bytes-left}
@@ -31,6 +33,7 @@ use Rattle.claims.specs.Claims.{IsRead, refusal-1-exactly, refusal-2-exactly}
 use Rattle.claims_frauds.specs.Demands.{Reader, Writer, Lookup, Digester, Demand3, Case, written, fileIn, ReadsBack, Finds, Demand2, CountsTheSteps, DigestsEachPrefix}
 use Rattle.claims_frauds.specs.Ours.{reader, digest}
 use Rattle.claims_frauds.specs.Witness as witness
+use Rattle.claims_frauds.specs.Witness.{case}
 
 -- ---- A READER THAT REFUSES ALL fails demand 3
 
@@ -57,28 +60,25 @@ reports-none-fails read none demand =
 pub always-empty-fails : ¬ Demand3 (λ s rs ps ns. reading.outcome (Read 2 false false 0 0 0) rs ps ns)
 always-empty-fails = reports-none-fails (λ s rs ps ns. reading.outcome (Read 2 false false 0 0 0) rs ps ns) (λ s rs ps ns version sparse tree records paths nodes e. let q : _≡_ {A = ℕ} records 0 = cc in q)
 
+-- ---- A READER THAT TAKES EVERY FILE WITHOUT "DIRC" FOR AN INDEX fails demand 3
+
+pub reads-unsigned-fails : (read : Reader) → ((s rs ps ns : List ℕ) → ¬ (take 4 s ≡ DIRC) → IsRead (read s rs ps ns .answer)) → ¬ Demand3 read
+reads-unsigned-fails read reads demand =
+    let (m, x) = demand .accepted-exactly-if-spelled witness.zeros-alone [] [] [] witness.zeros-readable witness.zeros-tree-fits .0 (reads witness.zeros-alone [] [] [] witness.zeros-unsigned) in
+    witness.zeros-not-spelled m x
+
+-- ours, but for an empty index where there is no "DIRC"
+abbrev pub lenient : Reader
+lenient s rs ps ns = pick (sameBytes (take 4 s) DIRC) (reader s rs ps ns) (reading.outcome (Read 2 false false 0 0 0) rs ps ns)
+
+pub lenient-fails : ¬ Demand3 lenient
+lenient-fails = reads-unsigned-fails lenient (λ s rs ps ns other. by s rs ps ns (sameBytes (take 4 s) DIRC) (λ e. other (same-equal (take 4 s) DIRC e)))
+  where
+    by : (s rs ps ns : List ℕ) (t : Bool) → (t ≡ true → ⊥) → IsRead (pick t (reader s rs ps ns) (reading.outcome (Read 2 false false 0 0 0) rs ps ns) .answer)
+    by s rs ps ns true never = absurd (never refl)
+    by s rs ps ns false never = (_, _, _, _, _, _, refl)
+
 -- ---- A WRITER THAT STORES NOTHING fails demand 2: one that leaves every output as it was, and says Done for 01's marked table and an output that does not happen to begin with "DIRC"
-
--- all that is written is the records
-abbrev plain : Options
-plain = record { tree = false; cache = false; eoie = false; sparse = false; unhashed = true }
-
--- the table, and for the reader room for three records and five path bytes
-abbrev case : List ℕ → ℕ → ℕ → Case
-case out version size =
-    record {
-      records = table;
-      paths = paths;
-      nodes = [];
-      names = [];
-      options = plain;
-      out = out;
-      version = version;
-      size = size;
-      records′ = replicate 288 0;
-      paths′ = replicate 5 0;
-      nodes′ = [];
-    }
 
 length-take-most : (n : ℕ) (l : List ℕ) → length (take n l) ≤ n
 length-take-most zero l = omega arith
@@ -97,7 +97,7 @@ pub stores-nothing-fails : (write : Writer) → ((c : Case) → written write c 
     → written write (case out version size) .answer ≡ Done version size → ¬ ReadsBack write reader
 stores-nothing-fails write leaves out bytes long other version size done demand =
     not-read (fileIn write c) (c .records′) (c .paths′) (c .nodes′) slices begins
-    (_, _, _, _, _, _, demand .reads-back c (record { done = done; few = lit< tt; table = witness.writable; slices = slices; room = witness.roomy }))
+    (_, _, _, _, _, _, demand .reads-back c (record { done = done; few = lit< tt; table = witness.writable; slices = slices; room = witness.roomy out version size }) .2)
   where
     c : Case
     c = case out version size

@@ -1,24 +1,38 @@
 -- OURS MEET THE DEMANDS: the definitions that the contracts cite. Assumes nothing.
 use Prim.Native.Nat.{ℕ}
-use mathlib.Core.Path.{_≡_, refl, ap, _∙_}
+use mathlib.Core.Path.{_≡_, refl, sym, ap, _∙_}
+use mathlib.Core.Bool.{Bool, true, false, _&&_, false≢true}
 use mathlib.Core.List.{List, [], _∷_}
 use lib.ListN.{take}
+use Rattle.laws.specs.Pick.{pick}
+use Rattle.wire.specs.Places.{fileAt}
 use Rattle.sha1.specs.Sha1.{sha1}
 use Rattle.sha1.specs.Pieces as pieces
 use Rattle.sha1.specs.Theorems.{each-prefix-finishes}
 use Rattle.sha1.specs.declared.Digest.{Digest}
+use Rattle.node.specs.Store.{nodesIn}
+use Rattle.extension.specs.declared.end_of_index_entry.Told.the-variants.{Offset}
 use Rattle.access.specs.Lookup.{lookupAt}
 use Rattle.access.specs.Finds.{absent-then-none, none-then-absent, found-then-has, has-then-found}
 use Rattle.access.specs.Steps.{found-counts-the-steps, absent-counts-the-steps}
 use Rattle.grammar.specs.Unique as grammar
 use Rattle.file.specs.Read.{readFile}
-use Rattle.write.specs.File.{writeAll}
+use Rattle.file.specs.declared.Answer.the-variants.{Read}
+use Rattle.write.specs.File.{writesTree, writeAll}
+use Rattle.write.specs.declared.Options.{Options}
+use Rattle.claims.specs.Reading.{answer-says}
 use Rattle.claims.specs.Claims as claims
 use Rattle.claims_write.specs.Meaning.{PathsEnd}
+use Rattle.claims_write.specs.Spelled.{indexOf}
 use Rattle.claims_write.specs.Spelled as spelled
+use Rattle.claims_write.specs.TreeBack.{written-tree-is-the-tables, tree-reads-back-node-by-node}
+use Rattle.claims_write.specs.Sizes.{treeAsked}
+use Rattle.claims_write.specs.Lengths.{offset-is, writes-tree-is, has-eoie-is}
+use Rattle.claims_write.specs.Answers as answers
+use Rattle.claims_write.specs.Asked as asked
 use Rattle.claims_write.specs.Eoie as eoie
 use Rattle.claims_write.specs.Claims as claims_write
-use Rattle.claims_frauds.specs.Demands.{Reader, Writer, Digester, Demand3, Case, Done?, ReadsBack, Finds, Demand2, CountsTheSteps, fedAll, DigestsEachPrefix}
+use Rattle.claims_frauds.specs.Demands.{Reader, Writer, Digester, Demand3, AnswersByTheTable, Answers, WritesAsAsked, Case, Done?, ReadsBack, Finds, Demand2, CountsTheSteps, fedAll, DigestsEachPrefix}
 
 -- what the contracts of `file::read`, `write::write_to`, `access::lookup` and `sha1::Digest` cite
 abbrev pub reader : Reader
@@ -35,27 +49,79 @@ digest = record { State = Digest; new = pieces.digestAfter []; feed = pieces.fed
 pub demand-3 : Demand3 reader
 demand-3 =
     record {
-      accepted-exactly-if-spelled = λ s rs ps ns x t. claims.accepted-exactly-if-spelled s rs ps ns (x .slices) (x .opened) (x .room) t;
+      accepted-exactly-if-spelled = λ s rs ps ns x t. claims.accepted-exactly-if-spelled s rs ps ns (x .slices) (x .trailer) (x .room) t;
       one-meaning = λ s m o x y. grammar.one-meaning 20 s m o x y;
-      stores-are-the-meaning = λ s rs ps ns x t m y. claims.stores-are-the-meaning s rs ps ns (x .slices) (x .opened) (x .room) t m y;
-      refusal-5-exactly = λ s rs ps ns x k. claims.refusal-5-exactly s rs ps ns (x .slices) (x .opened) (x .room) k;
-      refusal-5-stores = λ s rs ps ns x k y. claims.refusal-5-stores s rs ps ns (x .slices) (x .opened) (x .room) k y;
+      stores-are-the-meaning = λ s rs ps ns x t m y. claims.stores-are-the-meaning s rs ps ns (x .slices) (x .trailer) (x .room) t m y;
+      refusal-5-exactly = λ s rs ps ns x g k. claims.refusal-5-exactly s rs ps ns (x .slices) (record { header = g; trailer = x .trailer }) (x .room) k;
+      refusal-5-stores = λ s rs ps ns x g k y. claims.refusal-5-stores s rs ps ns (x .slices) (record { header = g; trailer = x .trailer }) (x .room) k y;
     }
 
+pub answers-by-the-table : AnswersByTheTable reader
+answers-by-the-table = answer-says
+
 -- ---- demand 2
+
+pub writer-answers : Answers writer
+writer-answers =
+    record {
+      done-exactly = answers.done-exactly;
+      done-answers = answers.done-answers;
+      refusal-12-exactly = answers.refusal-12-exactly;
+      refusal-16-exactly = answers.refusal-16-exactly;
+      refusal-15-exactly = answers.refusal-15-exactly;
+      refusal-14-exactly = answers.refusal-14-exactly;
+    }
+
+pub writes-as-asked : WritesAsAsked writer
+writes-as-asked =
+    record {
+      as-asked = asked.written-as-asked;
+      rest-as-it-was = λ rs ps ns nm o out version size e. (asked.rest-as-it-was rs ps ns nm o out version size e, asked.output-as-long rs ps ns nm o out version size e);
+      refused-as-it-was = answers.refused-leaves-the-output;
+    }
+
+module _ (c : Case) (x : Done? writer c) where
+  ends : PathsEnd (c .records) (c .paths)
+  ends = claims_write.writable-ends (c .records) (c .paths) (x .table)
+
+  roomy : claims_write.Roomy (c .records) (c .paths) (c .nodes) (c .options) (c .records′) (c .paths′) (c .nodes′)
+  roomy = record { records = x .room .records; paths = x .room .paths; nodes = λ e. x .room .nodes (sym (writes-tree-is (c .options)) ∙ e) }
+
+  means : asked.Means (c .records) (c .paths) (c .options) (c .version) (indexOf (c .records) (c .paths) (c .nodes) (c .names) (c .options))
+  means = asked.index-means (c .records) (c .paths) (c .nodes) (c .names) (c .options) (c .out) (c .version) (c .size) (x .done) (x .few)
+
+-- the reader's answer in the words of what is asked for
+answered : (c : Case) {sparse : Bool} {records paths : ℕ}
+    → Read (c .version) sparse (writesTree (c .options)) records paths (pick (writesTree (c .options)) (nodesIn (c .nodes)) 0)
+    ≡ Read (c .version) sparse (treeAsked (c .options)) records paths (pick (treeAsked (c .options)) (nodesIn (c .nodes)) 0)
+answered c {sparse} {records} {paths} = ap (λ (t : Bool). Read (c .version) sparse t records paths (pick t (nodesIn (c .nodes)) 0)) (writes-tree-is (c .options))
+
+-- TREE is given and asked for
+both-asked : (o : Options) → treeAsked o ≡ true → (o .tree ≡ true) × (o .cache ≡ true)
+both-asked o = by (o .tree) (o .cache)
+  where
+    by : (t c : Bool) → (t && c) ≡ true → (t ≡ true) × (c ≡ true)
+    by true c e = (refl, e)
+    by false c e = absurd (false≢true e)
 
 pub reads-back : ReadsBack writer reader
 reads-back =
     record {
-      reads-back = λ c x. claims_write.reads-back (c .records) (c .paths) (c .nodes) (c .names) (c .options) (c .out) (c .version) (c .size) (x .done) (x .few) (ends c x) (c .records′) (c .paths′) (c .nodes′) (x .slices) (x .room);
-      written-reads-back = λ c x. claims_write.written-reads-back (c .records) (c .paths) (c .nodes) (c .names) (c .options) (c .out) (c .version) (c .size) (x .done) (x .few) (ends c x) (c .records′) (c .paths′) (c .nodes′) (x .slices) (x .room) (x .table);
-      tree-reads-back = λ c x. claims_write.tree-reads-back (c .records) (c .paths) (c .nodes) (c .names) (c .options) (c .out) (c .version) (c .size) (x .done) (x .few) (ends c x) (c .records′) (c .paths′) (c .nodes′) (x .slices) (x .room);
-      written-is-spelled = λ c x. spelled.written-is-spelled (c .records) (c .paths) (c .nodes) (c .names) (c .options) (c .out) (c .version) (c .size) (x .done) (ends c x);
-      eoie-is-found = λ c x. eoie.eoie-is-found (c .records) (c .paths) (c .nodes) (c .names) (c .options) (c .out) (c .version) (c .size) (x .done);
+      reads-back = λ c x. (
+        indexOf (c .records) (c .paths) (c .nodes) (c .names) (c .options) .sparse,
+        means c x .sparse-tells,
+        claims_write.reads-back (c .records) (c .paths) (c .nodes) (c .names) (c .options) (c .out) (c .version) (c .size) (x .done) (x .few) (ends c x) (c .records′) (c .paths′) (c .nodes′) (x .slices) (roomy c x) ∙ answered c,
+      );
+      written-reads-back = λ c x. claims_write.written-reads-back (c .records) (c .paths) (c .nodes) (c .names) (c .options) (c .out) (c .version) (c .size) (x .done) (x .few) (ends c x) (c .records′) (c .paths′) (c .nodes′) (x .slices) (roomy c x) (x .table);
+      tree-reads-back = λ c x e. tree-reads-back-node-by-node (c .records) (c .paths) (c .nodes) (c .names) (c .options) (c .out) (c .version) (c .size) (x .done) (x .few) (ends c x) (c .records′) (c .paths′) (c .nodes′) (x .slices) (roomy c x) (both-asked (c .options) e .0) (both-asked (c .options) e .1);
+      written-is-spelled = λ c x. (
+        indexOf (c .records) (c .paths) (c .nodes) (c .names) (c .options),
+        spelled.written-is-spelled (c .records) (c .paths) (c .nodes) (c .names) (c .options) (c .out) (c .version) (c .size) (x .done) (ends c x),
+        means c x,
+        λ e. written-tree-is-the-tables (c .records) (c .paths) (c .nodes) (c .names) (c .options) (c .out) (c .version) (c .size) (x .done) (x .few) (ends c x) (c .records′) (c .paths′) (c .nodes′) (x .slices) (roomy c x) (both-asked (c .options) e .0) (both-asked (c .options) e .1),
+      );
+      eoie-is-found = λ c x e. eoie.eoie-is-found (c .records) (c .paths) (c .nodes) (c .names) (c .options) (c .out) (c .version) (c .size) (x .done) (has-eoie-is (c .records) (c .options) ∙ e) ∙ ap (λ (n : ℕ). Offset (fileAt n)) (offset-is (c .records) (c .paths));
     }
-  where
-    ends : (c : Case) → Done? writer c → PathsEnd (c .records) (c .paths)
-    ends c x = claims_write.writable-ends (c .records) (c .paths) (x .table)
 
 pub finds : Finds lookupAt
 finds =
@@ -65,7 +131,7 @@ finds =
     }
 
 pub demand-2 : Demand2 writer reader lookupAt
-demand-2 = record { reads-back = reads-back; finds = finds }
+demand-2 = record { answers = writer-answers; writes = writes-as-asked; reads-back = reads-back; finds = finds }
 
 -- ---- the halving rule
 

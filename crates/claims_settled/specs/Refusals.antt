@@ -1,4 +1,4 @@
--- WHAT EACH REFUSAL LEAVES (01, "When the desk says no", the third column), number by number: of all that a call can leave which meets its contract. Assumes that the file is bytes and that no
+-- WHAT EACH REFUSAL LEAVES (01, "When the desk says no", the third column), number by number: of all that a call can leave. Assumes that the file is bytes and that no
 -- slice has 2^64 bytes or more, the premise `Slices` of the reader's claims.
 use Prim.Native.Nat.{ℕ}
 use mathlib.Core.Path.{_≡_, refl, sym, subst}
@@ -26,8 +26,9 @@ use Rattle.claims_entries.specs.Said.{filled}
 use Rattle.claims_tree.specs.Said.{zeroed}
 use Rattle.claims.specs.Premises.{Slices}
 use Rattle.claims.specs.Said.{SaysFile, says-short, says-no-signature, says-other-version, says-bad-trailer, says-not-spelled, says-no-entry-room, says-not-filled, says-mandatory, says-too-deep, says-no-node-room}
-use Rattle.claims.specs.Claims.{contract-says}
+use Rattle.claims.specs.Reading.{answer-says}
 use Rattle.claims_settled.specs.Law.{Stores}
+use Rattle.claims_settled.specs.Calls.{FileReadCall, file-read-answers, WriteToCall, write-to-answers}
 
 -- ---- THE READER, 1 to 10
 
@@ -49,9 +50,13 @@ pub record FirstEntries (s rs ps : List ℕ) (k : ℕ) (nodes rs′ ps′ ns′ 
   pub node-store : ns′ ≡ nodes
 
 module _ (s rs ps ns : List ℕ) (slices : Slices s ps ns) (rs′ ps′ ns′ : List ℕ) where
-  -- a call that answers a and leaves the three stores so meets the reader's contract
+  -- a call of `file::read` that answers a and leaves the three stores so
   abbrev pub Leaves : Answer → Type 0
-  Leaves a = file.outcome a rs′ ps′ ns′ ≡ file.readFile 20 64 s rs ps ns
+  Leaves a = FileReadCall s rs ps ns a rs′ ps′ ns′
+
+  -- whatever it answers and leaves is as the rule of that answer says
+  pub call-says : {a : Answer} → Leaves a → SaysFile s rs ps ns (file.outcome a rs′ ps′ ns′)
+  call-says c = subst (SaysFile s rs ps ns) (sym (file-read-answers c)) (answer-says s rs ps ns slices)
 
   abbrev pub Untouched : Type 0
   Untouched = AsTheyWere rs ps ns rs′ ps′ ns′
@@ -61,64 +66,64 @@ module _ (s rs ps ns : List ℕ) (slices : Slices s ps ns) (rs′ ps′ ns′ : 
 
   -- 1 to 4: untouched
   pub after-1 : Leaves answer.ShortFile → Untouched
-  after-1 e = to (contract-says s rs ps ns slices answer.ShortFile rs′ ps′ ns′ e)
+  after-1 e = to (call-says e)
     where
       to : {r p n : List ℕ} → SaysFile s rs ps ns (file.outcome answer.ShortFile r p n) → AsTheyWere rs ps ns r p n
       to (says-short h) = record { records = refl; paths = refl; nodes = refl }
 
   pub after-2 : Leaves answer.NoSignature → Untouched
-  after-2 e = to (contract-says s rs ps ns slices answer.NoSignature rs′ ps′ ns′ e)
+  after-2 e = to (call-says e)
     where
       to : {r p n : List ℕ} → SaysFile s rs ps ns (file.outcome answer.NoSignature r p n) → AsTheyWere rs ps ns r p n
       to (says-no-signature h d) = record { records = refl; paths = refl; nodes = refl }
 
   pub after-3 : (version : ℕ) → Leaves (answer.OtherVersion version) → Untouched
-  after-3 version e = to (contract-says s rs ps ns slices (answer.OtherVersion version) rs′ ps′ ns′ e)
+  after-3 version e = to (call-says e)
     where
       to : {version : ℕ} {r p n : List ℕ} → SaysFile s rs ps ns (file.outcome (answer.OtherVersion version) r p n) → AsTheyWere rs ps ns r p n
       to (says-other-version h d f) = record { records = refl; paths = refl; nodes = refl }
 
   pub after-4 : Leaves answer.BadTrailer → Untouched
-  after-4 e = to (contract-says s rs ps ns slices answer.BadTrailer rs′ ps′ ns′ e)
+  after-4 e = to (call-says e)
     where
       to : {r p n : List ℕ} → SaysFile s rs ps ns (file.outcome answer.BadTrailer r p n) → AsTheyWere rs ps ns r p n
       to (says-bad-trailer g t) = record { records = refl; paths = refl; nodes = refl }
 
   -- 5 and 6: the entries before k, rest untouched
   pub after-5 : (k : ℕ) → Leaves (answer.NotSpelled k) → Holds k ns
-  after-5 k e = to (contract-says s rs ps ns slices (answer.NotSpelled k) rs′ ps′ ns′ e)
+  after-5 k e = to (call-says e)
     where
       to : {k : ℕ} {r p n : List ℕ} → SaysFile s rs ps ns (file.outcome (answer.NotSpelled k) r p n) → FirstEntries s rs ps k ns r p n
       to (says-not-spelled o {b = b} {ms = ms} rest h i x f none-left) = record { before = b; behind = rest; ms = ms; joins = i; spelled = x; records = refl; paths = refl; node-store = refl }
 
   pub after-6 : (k : ℕ) → Leaves (answer.NoEntryRoom k) → Holds k ns
-  after-6 k e = to (contract-says s rs ps ns slices (answer.NoEntryRoom k) rs′ ps′ ns′ e)
+  after-6 k e = to (call-says e)
     where
       to : {k : ℕ} {r p n : List ℕ} → SaysFile s rs ps ns (file.outcome (answer.NoEntryRoom k) r p n) → FirstEntries s rs ps k ns r p n
       to (says-no-entry-room o {b = b} {ms = ms} rest q h i x f y lacks) = record { before = b; behind = rest; ms = ms; joins = i; spelled = x; records = refl; paths = refl; node-store = refl }
 
   -- 7 and 8: all entries, nodes untouched
   pub after-7 : (place : ℕ) → Leaves (answer.NotFilled place) → Holds (countOf s) ns
-  after-7 place e = to (contract-says s rs ps ns slices (answer.NotFilled place) rs′ ps′ ns′ e)
+  after-7 place e = to (call-says e)
     where
       to : {place : ℕ} {r p n : List ℕ} → SaysFile s rs ps ns (file.outcome (answer.NotFilled place) r p n) → FirstEntries s rs ps (countOf s) ns r p n
       to (says-not-filled o {b = b} {c = c} {ms = ms} a f) = record { before = b; behind = c; ms = ms; joins = a .joins; spelled = a .spelled; records = refl; paths = refl; node-store = refl }
 
   pub after-8 : (signature : ℕ) → Leaves (answer.Mandatory signature) → Holds (countOf s) ns
-  after-8 signature e = to (contract-says s rs ps ns slices (answer.Mandatory signature) rs′ ps′ ns′ e)
+  after-8 signature e = to (call-says e)
     where
       to : {signature : ℕ} {r p n : List ℕ} → SaysFile s rs ps ns (file.outcome (answer.Mandatory signature) r p n) → FirstEntries s rs ps (countOf s) ns r p n
       to (says-mandatory o {b = b} {c = c} {ms = ms} a f) = record { before = b; behind = c; ms = ms; joins = a .joins; spelled = a .spelled; records = refl; paths = refl; node-store = refl }
 
   -- 9 and 10: all entries, node store zeroed
   pub after-9 : Leaves answer.TooDeep → Holds (countOf s) (zeroed ns)
-  after-9 e = to (contract-says s rs ps ns slices answer.TooDeep rs′ ps′ ns′ e)
+  after-9 e = to (call-says e)
     where
       to : {r p n : List ℕ} → SaysFile s rs ps ns (file.outcome answer.TooDeep r p n) → FirstEntries s rs ps (countOf s) (zeroed ns) r p n
       to (says-too-deep o {b = b} {c = c} {ms = ms} w d) = record { before = b; behind = c; ms = ms; joins = w .entries .joins; spelled = w .entries .spelled; records = refl; paths = refl; node-store = refl }
 
   pub after-10 : Leaves answer.NoNodeRoom → Holds (countOf s) (zeroed ns)
-  after-10 e = to (contract-says s rs ps ns slices answer.NoNodeRoom rs′ ps′ ns′ e)
+  after-10 e = to (call-says e)
     where
       to : {r p n : List ℕ} → SaysFile s rs ps ns (file.outcome answer.NoNodeRoom r p n) → FirstEntries s rs ps (countOf s) (zeroed ns) r p n
       to (says-no-node-room o {b = b} {c = c} {ms = ms} w u d) = record { before = b; behind = c; ms = ms; joins = w .entries .joins; spelled = w .entries .spelled; records = refl; paths = refl; node-store = refl }
@@ -159,30 +164,33 @@ module _ (rs ps ns nm : List ℕ) (o : Options) (out : List ℕ) where
       by nowhere true false false false = done (write.versionOf rs) (length whole) (whole ++ drop (length whole) out)
 
   module _ (out′ : List ℕ) where
-    -- a call that answers a and leaves the output so meets the writer's contract
+    -- a call of `write::write_to` that answers a and leaves the output so
     abbrev pub Writes : Wrote → Type 0
-    Writes a = write.outcome a out′ ≡ write.writeAll 20 sha1 64 rs ps ns nm o out
+    Writes a = WriteToCall rs ps ns nm o out a out′
+
+    says : {a : Wrote} → Writes a → Kept (write.outcome a out′)
+    says c = subst Kept (sym (write-to-answers c)) kept
 
     pub after-12 : (index : ℕ) → Writes (PathOutside index) → out′ ≡ out
-    after-12 index e = to (subst Kept (sym e) kept)
+    after-12 index e = to (says e)
       where
         to : {i : ℕ} {x : List ℕ} → Kept (write.outcome (PathOutside i) x) → x ≡ out
         to (refused a) = refl
 
     pub after-14 : (size : ℕ) → Writes (ShortOutput size) → out′ ≡ out
-    after-14 size e = to (subst Kept (sym e) kept)
+    after-14 size e = to (says e)
       where
         to : {n : ℕ} {x : List ℕ} → Kept (write.outcome (ShortOutput n) x) → x ≡ out
         to (refused a) = refl
 
     pub after-15 : Writes TooLarge → out′ ≡ out
-    after-15 e = to (subst Kept (sym e) kept)
+    after-15 e = to (says e)
       where
         to : {x : List ℕ} → Kept (write.outcome TooLarge x) → x ≡ out
         to (refused a) = refl
 
     pub after-16 : Writes NotProper → out′ ≡ out
-    after-16 e = to (subst Kept (sym e) kept)
+    after-16 e = to (says e)
       where
         to : {x : List ℕ} → Kept (write.outcome NotProper x) → x ≡ out
         to (refused a) = refl

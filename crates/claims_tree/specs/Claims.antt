@@ -124,10 +124,6 @@ module _ (n : ℕ) (fits : n ≤ idRoom) (limit : ℕ) (s : List ℕ) (start end
   no-second-answer x = one-answer answer-says x
 
   -- ---- THE THEOREMS
-  -- whatever a reader leaves that meets its contract
-  pub contract-says : (a : TreeAnswer) (ms : List ℕ) → (a, ms) ≡ reading → SaysReadTree n start bytes limit ns (a, ms)
-  contract-says a ms e = rw e answer-says
-
   -- what is spelled, with depth and room enough, is read, and the store is its rendering
   pub spelled-is-read : (t : Tree) → Node n start bytes t → depth t ≤ limit → nodes t ≤ lent ns → reading ≡ (IsTree (nodes t), filled ns (treeBytes t))
   spelled-is-read t x h k = no-second-answer (says-tree x h k)

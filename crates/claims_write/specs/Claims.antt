@@ -7,7 +7,7 @@ use mathlib.Core.Bool.{Bool, true, false}
 use mathlib.Core.List.{List}
 use mathlib.Core.Option.{Option, none, some}
 use native.Mathlib.Omega.{arith}
-use lib.ListN.{length, getElem?}
+use lib.ListN.{length, getElem?, length-map}
 use Rattle.laws.specs.Pick.{pick}
 use Rattle.laws.specs.Tests.{Same, same, differs, same?}
 use Rattle.sha1.specs.Sha1.{sha1}
@@ -16,7 +16,7 @@ use Rattle.entry.specs.Record.{recordsIn, flagsAt}
 use Rattle.node.specs.Store.{nodesIn}
 use Rattle.grammar.specs.Tree.{Tree}
 use Rattle.grammar.specs.DecideTree.{readTree}
-use Rattle.grammar.specs.File.{Index, countOf}
+use Rattle.grammar.specs.File.{Index}
 use Rattle.file.specs.Read.{Outcome, readFile}
 use Rattle.file.specs.declared.Answer.the-variants.{Read}
 use Rattle.claims_entries.specs.Rendering.{pathsBytes}
@@ -30,7 +30,7 @@ use Rattle.write.specs.declared.Answer.the-variants.{Done}
 use Rattle.write.specs.File.{writesTree, writeAll}
 use Rattle.claims_write.specs.Meaning.{statOf, writtenFlags, meaningOf, keptOf, meaningsOf, PathsEnd, MarksFit, Writable, WritableTable, NoneRemoved, SameEntry}
 use Rattle.claims_write.specs.Spelled.{treeBody, treePlace, indexOf, written, done-says, fileIn, file-is}
-use Rattle.claims_write.specs.Reading.{TreeRoom, count-w, renders-w, shown-w}
+use Rattle.claims_write.specs.Reading.{TreeRoom, renders-w, shown-w}
 use Rattle.claims_write.specs.Kept.{at-map, kept-is, kept-here}
 use Rattle.claims_write.specs.Trees.{treeWritten, tree-is-meant, written-tree-nodes, room-for-tree}
 
@@ -122,7 +122,7 @@ module _ (rs ps ns nm : List ℕ) (o : Options) (out : List ℕ) (version size :
     pub reads-back : reading .answer ≡ Read version (index .sparse) (writesTree o) (length (keptOf rs)) (length (pathsBytes (meaningsOf 20 rs ps))) (pick (writesTree o) (nodesIn ns) 0)
     reads-back =
         let d = done-says rs ps ns nm o out version size done in
-        let c : countOf bytes ≡ length (keptOf rs) = ap countOf same-file ∙ count-w rs ps ns nm o (d .few) (d .short) ends records′ paths′ nodes′ slices-w room tree-room in
+        let c : length (meaningsOf 20 rs ps) ≡ length (keptOf rs) = length-map (keptOf rs) (meaningOf 20 rs ps) in
         let v = d .version-is in
         written-renders .answer ∙ (λ j. Read (sym v j) (index .sparse) (tree-told j) (c j) (length (pathsBytes (meaningsOf 20 rs ps))) (nodes-told j))
 

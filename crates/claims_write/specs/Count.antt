@@ -59,7 +59,7 @@ level-some : {ns : List ℕ} {k j : ℕ} → Level ns k j → 1 ≤ k
 level-some root = omega arith
 level-some (below a p l) = omega arith
 
-level-found : (ns : List ℕ) (levels j : ℕ) → climbs ns levels j ≡ true → (k : ℕ) × Level ns k j
+pub level-found : (ns : List ℕ) (levels j : ℕ) → climbs ns levels j ≡ true → (k : ℕ) × Level ns k j
 unfolding climbs
 level-found ns zero j e = absurd (false-true e)
 level-found ns (suc levels) j e = by (same? j 0) e (λ f. level-found ns levels (parentAt ns j) f)
@@ -164,7 +164,7 @@ module _ (limit : ℕ) (ns nm : List ℕ) (proper : Proper limit ns nm) where
       no-mem q = not-mem q refl
   mem-each f (x ∷ l) j m = ⊎-elim (λ q. (x, here, q)) (λ q. let (y, a, b) = mem-each f l j q in (y, there a, b)) (mem-append (f x) (each f l) j m)
 
-  walk-inside : (d i j : ℕ) → i < nodesIn ns → Mem j (walk ns nm d i) → j < nodesIn ns
+  pub walk-inside : (d i j : ℕ) → i < nodesIn ns → Mem j (walk ns nm d i) → j < nodesIn ns
   unfolding walk
   walk-inside zero i j h here = h
   walk-inside zero i j h (there m) = absurd (not-mem m refl)
@@ -174,7 +174,7 @@ module _ (limit : ℕ) (ns nm : List ℕ) (proper : Proper limit ns nm) where
       walk-inside d x j (kids-are ns nm i x a .1) b
 
   -- each node of the table is met once
-  met-once : (j : ℕ) → j < nodesIn ns → hits (walk ns nm limit 0) j ≡ 1
+  pub met-once : (j : ℕ) → j < nodesIn ns → hits (walk ns nm limit 0) j ≡ 1
   met-once j h =
       let (m, l) = level-found ns limit j (proper .depth j h) in
       let s : 1 ≤ m = level-some l in

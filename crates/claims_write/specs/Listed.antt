@@ -69,7 +69,7 @@ rows-append {n} {ns} {nm} {i} (row {k = k} {b = c} place q) {b} {y} r =
     subst (λ (l : List ℕ). Rows n ns nm i (suc k + b) l) (sym (append-assoc own c y))
     (subst (λ (m : ℕ). Rows n ns nm i m (own ++ (c ++ y))) w (row place (rows-append q (subst (λ (m : ℕ). Rows n ns nm m b y) z r))))
 
-how-many : (t : ℕ → ℕ → Tree) (b : ℕ → List ℕ) (l : List ℕ) (place : ℕ) → howMany (subtreesOf t b place l) ≡ length l
+pub how-many : (t : ℕ → ℕ → Tree) (b : ℕ → List ℕ) (l : List ℕ) (place : ℕ) → howMany (subtreesOf t b place l) ≡ length l
 unfolding subtreesOf
 how-many t b [] place = refl
 how-many t b (j ∷ js) place = ap suc (how-many t b js (place + length (b j)))

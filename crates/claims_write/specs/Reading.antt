@@ -1,4 +1,4 @@
--- The written file as the reader's claims want it: its header and trailer are good, it has room where the table has, and the reader's answer and stores are the rendering of the
+-- The written file as the reader's claims want it: its trailer is good, it has room where the table has, and the reader's answer and stores are the rendering of the
 -- table's meaning. Assumes that the file is bytes and that no slice has 2^64 bytes or more, the premise `Slices`.
 use Prim.Native.Nat.{ℕ, zero, suc, _+_, _-_, _≤_}
 use mathlib.Core.Path.{_≡_, refl, sym, ap, _∙_, subst}
@@ -16,7 +16,7 @@ use Rattle.entry.specs.Record.{recordsIn}
 use Rattle.grammar.specs.Entry.{Meaning, start, Entries}
 use Rattle.grammar.specs.Extension.{Ext, TREE, Extensions, LastSigned}
 use Rattle.grammar.specs.File.{Index, headerLength, File, versionOf, countOf, space}
-use Rattle.grammar.specs.Space.{Spells, spells, spelled-in-space, spelled-has-good-header}
+use Rattle.grammar.specs.Space.{Spells, spells, spelled-in-space}
 use Rattle.grammar.specs.DecideExtension.{none-not-last, last-unique}
 use Rattle.grammar.specs.Unique.{entries-unique, extensions-unique}
 use Rattle.file.specs.Read.{readFile}
@@ -26,7 +26,6 @@ use Rattle.claims_entries.specs.Shown.{EachShown}
 use Rattle.claims_entries.specs.Fields.{bytes-left, bytes-right, spelled-each-fits, spelled-length, rendered-fields, paths-append}
 use Rattle.claims_tree.specs.Said.{lent, KeepsWithinDepth, HasRoom}
 use Rattle.claims.specs.Premises.{Slices, trailer, GoodTrailer, zeros, hashed}
-use Rattle.claims.specs.Said.{Opened}
 use Rattle.claims.specs.Claims.{LastTREE, TreeFits, Renders, stores-are-the-meaning}
 use Rattle.write.specs.declared.Options.{Options}
 use Rattle.write.specs.Entries.{tableBytes}
@@ -144,11 +143,8 @@ module _ (rs ps ns nm : List ℕ) (o : Options) where
             subst (λ (b : List ℕ). KeepsWithinDepth 20 b 64 × HasRoom 20 b (lent nodes′)) q (k refl)
 
     module _ (records′ paths′ nodes′ : List ℕ) (slices : Slices w paths′ nodes′) (room : Fits records′ paths′ (length (keptOf rs)) ms) (tree-room : TreeRoom ns nm o nodes′) where
-      pub count-w : countOf w ≡ length (keptOf rs)
+      count-w : countOf w ≡ length (keptOf rs)
       count-w = sym (count-said in-space) ∙ length-map (keptOf rs) (meaningOf 20 rs ps)
-
-      opened-w : Opened w
-      opened-w = record { header = spelled-has-good-header spelled-w; trailer = good-trailer }
 
       room-w : RoomFor 20 (versionOf w) (space 20 w) (countOf w) records′ paths′
       room-w =
@@ -156,7 +152,7 @@ module _ (rs ps ns nm : List ℕ) (o : Options) where
           (subst (λ (k : ℕ). Fits records′ paths′ k ms) (sym count-w) room)
 
       pub renders-w : Renders w records′ paths′ nodes′ (indexOf rs ps ns nm o) (readFile 20 64 w records′ paths′ nodes′)
-      renders-w = stores-are-the-meaning w records′ paths′ nodes′ slices opened-w room-w (tree-fits nodes′ tree-room) (indexOf rs ps ns nm o) spelled-w
+      renders-w = stores-are-the-meaning w records′ paths′ nodes′ slices good-trailer room-w (tree-fits nodes′ tree-room) (indexOf rs ps ns nm o) spelled-w
 
       bytes-w : Bytes (tableBytes 20 rs ps)
       bytes-w =

@@ -225,10 +225,3 @@ module _ (rs ps ns nm : List ℕ) (o : Options) (out : List ℕ) (version size :
   written-is-spelled ends =
       let d = done-says rs ps ns nm o out version size done in
       subst (λ (b : List ℕ). File 20 b (indexOf rs ps ns nm o)) (sym file-is) (file-spelled rs ps ns nm o (d .few) (d .short) ends)
-
--- whatever a writer leaves that meets its contract
-pub contract-spelled : (rs ps ns nm : List ℕ) (o : Options) (out out′ : List ℕ) (version size : ℕ) → outcome (Done version size) out′ ≡ writeAll 20 sha1 64 rs ps ns nm o out → PathsEnd rs ps
-    → File 20 (take size out′) (indexOf rs ps ns nm o)
-contract-spelled rs ps ns nm o out out′ version size e ends =
-    let done : writeAll 20 sha1 64 rs ps ns nm o out .answer ≡ Done version size = sym (ap (λ (x : Outcome). x .answer) e) in
-    subst (λ (b : List ℕ). File 20 (take size b) (indexOf rs ps ns nm o)) (sym (ap (λ (x : Outcome). x .out) e)) (written-is-spelled rs ps ns nm o out version size done ends)

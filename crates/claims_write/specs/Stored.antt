@@ -34,7 +34,7 @@ use Rattle.claims_write.specs.Listed.{countUp, InFileOrder}
 none-in : {A : Type 0} {x : ℕ} → Mem x [] → A
 none-in m = absurd (not-mem m refl)
 
-first-or-later : {x y : ℕ} {l : List ℕ} → Mem x (y ∷ l) → (x ≡ y) ⊎ Mem x l
+pub first-or-later : {x y : ℕ} {l : List ℕ} → Mem x (y ∷ l) → (x ≡ y) ⊎ Mem x l
 first-or-later here = inl refl
 first-or-later (there m) = inr m
 

@@ -68,7 +68,7 @@ nul-never (suc f) (c ∷ l) i h e = by (same? c 0) (λ q. nul-never f l (i + 1) 
     by (same z) ih e = absurd (false-true e)
     by (differs d) ih e = let p : 0 < c = omega arith in byte p (ih e)
 
-no-nul : (name : List ℕ) → holdsNone name ≡ true → NoNul name
+pub no-nul : (name : List ℕ) → holdsNone name ≡ true → NoNul name
 unfolding holdsNone nulAt
 no-nul name e = nul-never (length name - 0) name 0 (omega arith) e
 
@@ -132,12 +132,12 @@ unfoldable pub hits : List ℕ → ℕ → ℕ
 hits [] j = 0
 hits (x ∷ l) j = pick (eqb x j) 1 0 + hits l j
 
-total-zero : (k j : ℕ) → total (λ x. 0) k j ≡ 0
+pub total-zero : (k j : ℕ) → total (λ x. 0) k j ≡ 0
 unfolding total
 total-zero zero j = refl
 total-zero (suc k) j = omega (arith, total-zero k (j + 1))
 
-total-sum : (f g : ℕ → ℕ) (k j : ℕ) → total (λ x. f x + g x) k j ≡ total f k j + total g k j
+pub total-sum : (f g : ℕ → ℕ) (k j : ℕ) → total (λ x. f x + g x) k j ≡ total f k j + total g k j
 unfolding total
 total-sum f g zero j = refl
 total-sum f g (suc k) j = omega (arith, total-sum f g k (j + 1))
@@ -277,7 +277,7 @@ other-names : (name : ℕ → List ℕ) (x : ℕ) (l : List ℕ) → ((y : ℕ) 
 other-names name x [] h = alone
 other-names name x (y ∷ l) h = other-differs (h y here) (other-names name x l (λ z m. h z (there m)))
 
-distinct-names : (name : ℕ → List ℕ) (R : ℕ → ℕ → Type 0) → ((x : ℕ) → R x x → ⊥) → {l : List ℕ} → Rising R l → ((x y : ℕ) → Mem x l → Mem y l → name x ≡ name y → x ≡ y) → Distinct (map name l)
+pub distinct-names : (name : ℕ → List ℕ) (R : ℕ → ℕ → Type 0) → ((x : ℕ) → R x x → ⊥) → {l : List ℕ} → Rising R l → ((x y : ℕ) → Mem x l → Mem y l → name x ≡ name y → x ≡ y) → Distinct (map name l)
 distinct-names name R irr done h = no-names
 distinct-names name R irr (more {x = x} {xs = l} r rest) h =
     one-more (other-names name x l (λ y m e. irr x (subst (R x) (sym (h x y here (there m) e)) (r y m)))) (distinct-names name R irr rest (λ y z a b e. h y z (there a) (there b) e))
@@ -316,7 +316,7 @@ rising-names ns nm (more {x = x} r (more {x = y} q rest)) h =
     then-name (before-names ns nm x y (r y here) (h x y here (there here))) (rising-names ns nm (more q rest) (λ a b m k e. h a b (there m) (there k) e))
 
 module _ (n limit : ℕ) (ns nm : List ℕ) (small : n ≤ 32) (few : length ns < 2 ^ 64) (proper : Proper limit ns nm) where
-  same-name : (i : ℕ) → i < nodesIn ns → (x y : ℕ) → Mem x (kidsOf ns nm i) → Mem y (kidsOf ns nm i) → nameAt nm ns x ≡ nameAt nm ns y → x ≡ y
+  pub same-name : (i : ℕ) → i < nodesIn ns → (x y : ℕ) → Mem x (kidsOf ns nm i) → Mem y (kidsOf ns nm i) → nameAt nm ns x ≡ nameAt nm ns y → x ≡ y
   same-name i h x y a b e =
       let d : DistinctAt nm ns i 1 (nodesIn ns) = differ-distinct nm ns i 1 (nodesIn ns) (proper .distinct i h) in
       let (x₁, x₂, x₃) = kids-are ns nm i x a in

@@ -21,26 +21,26 @@ use Rattle.grammar.specs.DecideFile.{readHeader, anyOf, sparseOf, readCa
 use Rattle.grammar.specs.Unique.{file-decided, no-file-decided}
 
 -- all that decides, open
-unfoldable decided : List ℕ → Option Index
+unfoldable pub decided : List ℕ → Option Index
 unfolding compared readTimes readFill readBytes readBig readGroups readVariable readUntil moreDigits readDigits readUnsigned readSigned readWords readFields readFlags readCounted readToNul readCompressed readName readEntry readEntries sameList readFramed mandatory allowed readExtension readExtensions readLast readId readHead otherNames distinct readNodes readNode readTree readHeader anyOf sparseOf readCacheTree readFile
 decided = readFile 20
 
 -- ---- parts of the files
 
-abbrev header : ℕ → ℕ → List ℕ
+abbrev pub header : ℕ → ℕ → List ℕ
 header version count = DIRC ++ (0 ∷ 0 ∷ 0 ∷ version ∷ 0 ∷ 0 ∷ 0 ∷ count ∷ [])
 
 -- 24 bytes, a mode of which some bits are dropped, 12 bytes, and an id
-abbrev fixed : List ℕ
+abbrev pub fixed : List ℕ
 fixed = replicate 24 0 ++ ((255 ∷ 255 ∷ 129 ∷ 164 ∷ []) ++ (replicate 12 0 ++ replicate 20 3))
 
 abbrev stat : Stat
 stat = record { ctime = 0; ctime-nanos = 0; mtime = 0; mtime-nanos = 0; dev = 0; ino = 0; mode = 0o100644; uid = 0; gid = 0; size = 0 }
 
-abbrev kept : ℕ → List ℕ → Meaning
+abbrev pub kept : ℕ → List ℕ → Meaning
 kept flags path = meaning stat (replicate 20 3) flags path
 
-abbrev extension : List ℕ → List ℕ → List ℕ
+abbrev pub extension : List ℕ → List ℕ → List ℕ
 extension signature body = signature ++ (0 ∷ 0 ∷ 0 ∷ length body ∷ body)
 
 -- a root without a name, "2 1", an id, and in it "a", "-1 0"
@@ -50,14 +50,14 @@ twoNodes = 0 ∷ 50 ∷ 32 ∷ 49 ∷ 10 ∷ (replicate 20 5 ++ (97 ∷ 0 ∷ 45
 abbrev pub twoNodesAt : ℕ → Tree
 twoNodesAt place = tree place [] (covers 2) (replicate 20 5) (beside (tree (place + 25) (97 ∷ []) invalid [] childless) childless)
 
-abbrev trailer : List ℕ
+abbrev pub trailer : List ℕ
 trailer = replicate 20 0
 
 -- "a": one byte of padding, a 7
-abbrev entryA : List ℕ
+abbrev pub entryA : List ℕ
 entryA = fixed ++ (0 ∷ 1 ∷ 97 ∷ 7 ∷ [])
 
-abbrev index : ℕ → List Meaning → Option Tree → Index
+abbrev pub index : ℕ → List Meaning → Option Tree → Index
 index version entries root = record { version = version; sparse = false; entries = entries; tree = root }
 
 -- ---- FILES THAT ARE SPELLED
@@ -140,7 +140,7 @@ byte-behind-the-root = file-decided 20 _ _ .0 refl
 
 -- ---- FILES THAT ARE NOT SPELLED
 
-abbrev NoFile : List ℕ → Type 0
+abbrev pub NoFile : List ℕ → Type 0
 NoFile xs = (m : Index) → ¬ File 20 xs m
 
 -- 31 bytes

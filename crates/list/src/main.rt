@@ -2,19 +2,16 @@
 use libc::STDIN_FILENO;
 use libc::STDOUT_FILENO;
 
-// Writes a text that was put at the start of out.
-fn write(out: &[u8], size: usize) {
-    if size <= out.len() {
-        io::write_all(STDOUT_FILENO, &out[..size]);
-    }
+// Prints the listing of a file. Every listing fits, so that no part of one is ever held back.
+fn print(file: &[u8]) {
+    let mut out = [0u8; listing::LISTING_ROOM];
+    let size = listing::list_file(file, &mut out);
+    io::write_all(STDOUT_FILENO, &out[..size]);
 }
 
 fn main() {
     // one byte more than is read, so that longer input is seen
     let mut file = [0u8; 65537];
     let n = io::read_full(STDIN_FILENO, &mut file);
-    // room for 512 lines of 51 bytes and for 65,536 path bytes, each of which is of one path alone
-    let mut out = [0u8; 91648];
-    let size = listing::list_file(&file[..n], &mut out);
-    write(&out, size);
+    print(&file[..n]);
 }

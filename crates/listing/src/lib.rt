@@ -13,6 +13,9 @@ const PATH_ROOM: usize = 65536;
 
 const NODE_ROOM: usize = 18432;
 
+// The room in which the text of every file fits: 512 lines of 51 bytes and their paths, which have a byte of the path store each (`every-listing-fits`).
+pub const LISTING_ROOM: usize = 91648;
+
 // How many records an answer speaks of.
 fn records_of(answer: Answer) -> usize
     ensures { λ r. ⌜ r ≡ recordsOf answer ⌝ }

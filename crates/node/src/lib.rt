@@ -229,7 +229,7 @@ pub fn parent(nodes: &[u8], i: usize) -> u64
     word(nodes, i, PARENT)
 }
 
-// The id of node i, all zeros where it has none; empty where there is no such node.
+// The id of node i as the store has it, which is zeros for a node that was read and has none; empty where there is no such node.
 pub fn id(nodes: &[u8], i: usize) -> &[u8]
     ensures { λ r. ⌜ now r ≡ idAt 20 (now (nodes .entry)) i ⌝ }
 {

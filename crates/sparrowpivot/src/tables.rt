@@ -97,7 +97,7 @@ pub extern "C" fn sparrowpivot_node(nodes: &[u8], i: usize, values: &mut [u64; 8
     0
 }
 
-// The id of node i; zeros where it has none, or where there is no such node.
+// The id of node i as the store has it; zeros where there is no such node.
 fn id_of_node(nodes: &[u8], i: usize) -> [u8; format::ID_SIZE]
     ensures { λ r. ⌜ r ≡ nodeId (now (nodes .entry)) i ⌝ }
 {
