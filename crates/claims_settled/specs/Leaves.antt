@@ -1,17 +1,11 @@
--- That the contract of each callable function of the leaves settles its answer and every lent store: refusal numbers, sums, hexadecimal digits, byte slices, numbers on the wire, the
+-- That the contract of each callable function of the leaves settles its answer and every lent store: sums, hexadecimal digits, byte slices, numbers on the wire, the
 -- digest. Assumes nothing.
-use Rattle.refusal.proofs as refusal
 use Rattle.sums.proofs as sums
 use Rattle.show.proofs as show
 use Rattle.slices.proofs as slices
 use Rattle.wire.proofs as wire
 use Rattle.sha1.proofs as sha1
 use Rattle.claims_settled.specs.Law.{Settles, both, settled}
-
--- ---- `refusal`
-
-pub number-of-settled : Settles refusal.number_of.Kinds.ps refusal.number_of.Kinds.r refusal.number_of.Reads.Learnt
-number-of-settled κs a z z′ w w′ = settled (λ r. (r, w))
 
 -- ---- `sums`
 

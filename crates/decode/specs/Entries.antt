@@ -11,6 +11,7 @@ use Rattle.wire.specs.Places.{pathAt}
 use Rattle.wire.specs.declared.FileAt.{FileAt}
 use Rattle.wire.specs.declared.PathAt.{PathAt}
 use Rattle.refusal.specs.Refusal.{not-spelled, no-entry-room}
+use Rattle.refusal.specs.Bit.{bit}
 use Rattle.entry.specs.Mode.{dirAt}
 use Rattle.entry.specs.Record.{recordsIn, putRecord}
 use Rattle.measure.specs.Entry.{measureAt}
@@ -20,16 +21,17 @@ use Rattle.decode.specs.declared.entries.Before.{Before}
 use Rattle.decode.specs.declared.entries.Answer.{Answer}
 use Rattle.decode.specs.declared.entries.Answer.the-variants.{Done, NotSpelled, NoRoom}
 
--- 01's number for an answer, 0 where there is no refusal, and the value that a refusal carries
-abbrev pub refusal : Answer → ℕ
-refusal (Done next used sparse) = 0
-refusal (NotSpelled k) = not-spelled
-refusal (NoRoom k) = no-entry-room
+-- 01's number of an answer, 0 where nothing is refused, and what goes with it: the place behind the entries, the path bytes in use and whether the index is sparse, or
+-- the entry that is refused
+abbrev pub numberOf : Answer → ℕ
+numberOf (Done next used sparse) = 0
+numberOf (NotSpelled k) = not-spelled
+numberOf (NoRoom k) = no-entry-room
 
-abbrev pub carried : Answer → List ℕ
-carried (Done next used sparse) = []
-carried (NotSpelled k) = k ∷ []
-carried (NoRoom k) = k ∷ []
+abbrev pub carriedOf : Answer → List ℕ
+carriedOf (Done next used sparse) = next .0 ∷ used .0 ∷ bit sparse ∷ []
+carriedOf (NotSpelled k) = k ∷ []
+carriedOf (NoRoom k) = k ∷ []
 
 -- a path: what is kept of the one before, which ends at `used`, and a part of the file
 unfoldable pub pathOf : List ℕ → List ℕ → ℕ → ℕ → ℕ → ℕ → ℕ → List ℕ

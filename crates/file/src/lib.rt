@@ -5,7 +5,7 @@ ghost use lib.ListN.{length};
 ghost use Rattle.wire.specs.declared.FileAt.{FileAt};
 ghost use Rattle.format.specs.Format.{depthLimit, idSize};
 ghost use Rattle.file.specs.Trailer.{goodTrailer};
-ghost use Rattle.file.specs.Answer.{numberOf, carriesOf, carriedOf};
+ghost use Rattle.file.specs.Answer.{numberOf, carriesOf, valueOf};
 ghost use Rattle.file.specs.Read.{outcome, marked, withTree, extensionsInto, entriesInto, readFile};
 use decode::entries::Answer as Ran;
 use decode::entries::Before;
@@ -92,7 +92,7 @@ pub fn carries(a: Answer) -> bool
 
 // The value that an answer carries; 0 where it carries none.
 pub fn carried(a: Answer) -> u64
-    ensures { λ r. ⌜ r ≡ carriedOf a ⌝ }
+    ensures { λ r. ⌜ r ≡ valueOf a ⌝ }
 {
     match a {
         Answer::OtherVersion(v) => v as u64,

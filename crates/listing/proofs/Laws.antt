@@ -9,7 +9,7 @@ use lib.Seq.{paste}
 use borrow.Author.Tests.{lt-ltb, le-ltb, eq-eqb, ne-eqb}
 use Rattle.lines.specs.Lines.{linesFrom, refusedText}
 use Rattle.lines.specs.Written.{Outcome, outcome, written, copied, cap-fits, text-short, text-written}
-use Rattle.file.specs.Answer.{numberOf, carriesOf, carriedOf}
+use Rattle.file.specs.Answer.{numberOf, carriesOf, valueOf}
 use Rattle.file.specs.Read as read
 use Rattle.file.specs.declared.Answer.{Answer}
 use Rattle.file.specs.declared.Answer.the-variants.{Read}
@@ -20,7 +20,7 @@ module _ (a : Answer) (rs ps out : List ℕ) (number : ℕ) (is : number ≡ num
   unfolding textOf
   answer-read z n en e = e ∙ ap (λ (k : ℕ). written (linesFrom 20 rs ps k 0) out) en ∙ sym (rw (← is, eq-eqb number 0 z))
 
-  pub answer-refused : (number ≡ 0 → ⊥) → (carries : Bool) (value : ℕ) → carries ≡ carriesOf a → value ≡ carriedOf a → o ≡ written (refusedText number carries value) out → o ≡ written (textOf 20 a rs ps) out
+  pub answer-refused : (number ≡ 0 → ⊥) → (carries : Bool) (value : ℕ) → carries ≡ carriesOf a → value ≡ valueOf a → o ≡ written (refusedText number carries value) out → o ≡ written (textOf 20 a rs ps) out
   unfolding textOf
   answer-refused z carries value ec ev e = e ∙ (λ k. written (refusedText number (ec k) (ev k)) out) ∙ sym (rw (← is, ne-eqb number 0 z))
 

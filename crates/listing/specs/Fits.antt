@@ -42,7 +42,7 @@ use Rattle.node.specs.Store.{nodeSize}
 use Rattle.tree.specs.Tree.{readTree}
 use Rattle.tree.specs.declared.TreeAnswer.{TreeAnswer}
 use Rattle.tree.specs.declared.TreeAnswer.the-variants as grown
-use Rattle.file.specs.Answer.{numberOf, carriesOf, carriedOf}
+use Rattle.file.specs.Answer.{numberOf, carriesOf, valueOf}
 use Rattle.file.specs.Read.{Outcome, outcome, marked, grownInto, onWalked, extensionsInto, nothingBefore, onEntries, afterEntries, entriesInto, onHeader, readFile}
 use Rattle.file.specs.Trailer.{goodTrailer}
 use Rattle.file.specs.declared.Entries.{Entries}
@@ -146,9 +146,9 @@ refusal-short number value true h k =
     omega (arith, refused-carried number value (length (digitsOf 10 number)) (length (digitsOf 10 value)) true refl refl refl, digits-fit number _ refl h, digits-fit value _ refl k)
 refusal-short number value false h k = omega (arith, refused-alone number value (length (digitsOf 10 number)) 0 false refl refl, digits-fit number _ refl h)
 
-answer-short : (a : Answer) (rs ps : List ℕ) → (numberOf a ≡ 0 → ⊥) → numberOf a ≤ most → carriedOf a ≤ most → length (textOf idSize a rs ps) ≤ refusalRoom
+answer-short : (a : Answer) (rs ps : List ℕ) → (numberOf a ≡ 0 → ⊥) → numberOf a ≤ most → valueOf a ≤ most → length (textOf idSize a rs ps) ≤ refusalRoom
 unfolding textOf
-answer-short a rs ps d h k = rw (ne-eqb (numberOf a) 0 d) (refusal-short (numberOf a) (carriedOf a) (carriesOf a) h k)
+answer-short a rs ps d h k = rw (ne-eqb (numberOf a) 0 d) (refusal-short (numberOf a) (valueOf a) (carriesOf a) h k)
 
 -- ---- what was read, and what was refused
 
@@ -167,7 +167,7 @@ module _ (s : List ℕ) (bytes : (i : ℕ) → getD s i 0 < 256) (m : ℕ) (line
     abbrev Fits : Answer → Type 0
     Fits a = length (textOf idSize a rs ps) ≤ m
 
-    refusal-fits : (a : Answer) → (numberOf a ≡ 0 → ⊥) → numberOf a ≤ most → carriedOf a ≤ most → Fits a
+    refusal-fits : (a : Answer) → (numberOf a ≡ 0 → ⊥) → numberOf a ≤ most → valueOf a ≤ most → Fits a
     refusal-fits a d h k = omega (arith, answer-short a rs ps d h k)
 
     tree-fits : (e : Entries) → length (linesFrom idSize rs ps (e .records) 0) ≤ m → (t : TreeAnswer × List ℕ) → Fits (grownInto e t .0)

@@ -13,13 +13,14 @@ use Rattle.wire.specs.Places.{fileAt}
 use Rattle.wire.specs.declared.FileAt.{FileAt}
 use Rattle.wire.specs.declared.PathAt.{PathAt}
 use Rattle.refusal.specs.Refusal.{not-spelled, no-entry-room, no-stage, path-outside, not-after, short-output, too-large, not-proper}
+use Rattle.refusal.specs.Bit.{bit}
 use Rattle.format.specs.Format.{depthLimit}
 use Rattle.format.specs.Format.{headerSize, idSize}
 use Rattle.sha1.specs.Sha1.{sha1}
 use Rattle.decode.specs.Entries as entries
 use Rattle.decode.specs.declared.entries.Answer.{Answer as Ran}
 use Rattle.decode.specs.declared.entries.Answer.the-variants as ran
-use Rattle.file.specs.Answer.{numberOf}
+use Rattle.file.specs.Answer.{numberOf, carriedOf}
 use Rattle.file.specs.Read as file
 use Rattle.file.specs.declared.Answer.{Answer}
 use Rattle.file.specs.declared.Answer.the-variants as answer
@@ -44,8 +45,8 @@ use Rattle.extension.specs.declared.index_entry_offset_table.Table.{Table}
 use Rattle.extension.specs.declared.index_entry_offset_table.Table.the-variants as table
 use Rattle.extension.specs.declared.index_entry_offset_table.Offset.{Offset as Pair}
 use Rattle.extension.specs.declared.index_entry_offset_table.Offset.the-variants as pair
-use Rattle.sparrowpivot.specs.Told.{Told, told, bit, one, two, three}
-use Rattle.sparrowpivot.specs.Reading.{begin, readValues, tellRead, tellEntries}
+use Rattle.sparrowpivot.specs.Told.{Told, told, eight}
+use Rattle.sparrowpivot.specs.Reading.{begin, tellRead, tellEntries}
 use Rattle.sparrowpivot.specs.Writing.{optionsFrom, tellWrite}
 use Rattle.sparrowpivot.specs.Searching.{tellFound, tellVerified}
 use Rattle.sparrowpivot.specs.Extensions.{tellOffset, tellTable, tellPair, extensionsFrom}
@@ -57,11 +58,11 @@ alike tell p q = ap tell (sym p ∙ q)
 
 -- ---- reading
 
-pub told-read : {a : Answer} {rs ps ns vs : List ℕ} {r : ℕ} {o : file.Outcome} → r ≡ numberOf a → vs ≡ readValues a → file.outcome a rs ps ns ≡ o → told r vs (rs ∷ ps ∷ ns ∷ []) ≡ tellRead o
+pub told-read : {a : Answer} {rs ps ns vs : List ℕ} {r : ℕ} {o : file.Outcome} → r ≡ numberOf a → vs ≡ eight (carriedOf a) → file.outcome a rs ps ns ≡ o → told r vs (rs ∷ ps ∷ ns ∷ []) ≡ tellRead o
 told-read {a} {rs} {ps} {ns} p q e = (λ k. told (p k) (q k) (rs ∷ ps ∷ ns ∷ [])) ∙ ap tellRead e
 
-pub values-read : {a : Answer} {version records paths nodes m t : ℕ} {sparse tree : Bool} → a ≡ answer.Read version sparse tree records paths nodes → m ≡ bit sparse → t ≡ bit tree → _≡_ {A = List ℕ} (version ∷ m ∷ t ∷ records ∷ paths ∷ nodes ∷ 0 ∷ 0 ∷ []) (readValues a)
-values-read {version} {records} {paths} {nodes} q b d = (λ k. version ∷ b k ∷ d k ∷ records ∷ paths ∷ nodes ∷ 0 ∷ 0 ∷ []) ∙ sym (ap readValues q)
+pub values-read : {a : Answer} {version records paths nodes m t : ℕ} {sparse tree : Bool} → a ≡ answer.Read version sparse tree records paths nodes → m ≡ bit sparse → t ≡ bit tree → _≡_ {A = List ℕ} (eight (version ∷ m ∷ t ∷ records ∷ paths ∷ nodes ∷ [])) (eight (carriedOf a))
+values-read {version} {records} {paths} {nodes} q b d = (λ k. eight (version ∷ b k ∷ d k ∷ records ∷ paths ∷ nodes ∷ [])) ∙ sym (ap (λ (x : Answer). eight (carriedOf x)) q)
 
 module _ (s rs₀ ps₀ rs ps : List ℕ) (version count end : ℕ) (a : Ran) (e : entries.outcome a rs ps ≡ entries.readEntries idSize s (fileAt end) version count 0 (fileAt headerSize) begin rs₀ ps₀) (at-end : end ≡ length s - idSize) where
   abbrev whole : Told
@@ -72,13 +73,13 @@ module _ (s rs₀ ps₀ rs ps : List ℕ) (version count end : ℕ) (a : Ran) (e
       sym (ap (λ (x : Ran). tellEntries (entries.outcome x rs ps)) q) ∙ ap tellEntries e
       ∙ ap (λ (x : ℕ). tellEntries (entries.readEntries idSize s (fileAt x) version count 0 (fileAt headerSize) begin rs₀ ps₀)) at-end
 
-  pub told-done : {next : FileAt} {used : PathAt} {n : ℕ} {sparse : Bool} → a ≡ ran.Done next used sparse → n ≡ bit sparse → told 0 (three (next .0) (used .0) n) (rs ∷ ps ∷ []) ≡ whole
-  told-done {next} {used} q b = (λ k. told 0 (three (next .0) (used .0) (b k)) (rs ∷ ps ∷ [])) ∙ as-told q
+  pub told-done : {next : FileAt} {used : PathAt} {n : ℕ} {sparse : Bool} → a ≡ ran.Done next used sparse → n ≡ bit sparse → told 0 (eight (next .0 ∷ used .0 ∷ n ∷ [])) (rs ∷ ps ∷ []) ≡ whole
+  told-done {next} {used} q b = (λ k. told 0 (eight (next .0 ∷ used .0 ∷ b k ∷ [])) (rs ∷ ps ∷ [])) ∙ as-told q
 
-  pub told-not-spelled : {k : ℕ} → a ≡ ran.NotSpelled k → told not-spelled (one k) (rs ∷ ps ∷ []) ≡ whole
+  pub told-not-spelled : {k : ℕ} → a ≡ ran.NotSpelled k → told not-spelled (eight (k ∷ [])) (rs ∷ ps ∷ []) ≡ whole
   told-not-spelled = as-told
 
-  pub told-no-room : {k : ℕ} → a ≡ ran.NoRoom k → told no-entry-room (one k) (rs ∷ ps ∷ []) ≡ whole
+  pub told-no-room : {k : ℕ} → a ≡ ran.NoRoom k → told no-entry-room (eight (k ∷ [])) (rs ∷ ps ∷ []) ≡ whole
   told-no-room = as-told
 
 -- ---- writing
@@ -97,67 +98,67 @@ module _ (rs ps ns nm out₀ out : List ℕ) (options : ℕ) (o : Options) (a : 
       sym (ap (λ (x : Written). tellWrite (write.outcome x out)) q) ∙ ap tellWrite e
       ∙ ap (λ (x : Options). tellWrite (write.writeAll idSize sha1 depthLimit rs ps ns nm x out₀)) asked
 
-  pub told-written : {version size : ℕ} → a ≡ written.Done version size → told 0 (two version size) (out ∷ []) ≡ whole-write
+  pub told-written : {version size : ℕ} → a ≡ written.Done version size → told 0 (eight (version ∷ size ∷ [])) (out ∷ []) ≡ whole-write
   told-written = as-written
 
-  pub told-write-outside : {i : ℕ} → a ≡ written.PathOutside i → told path-outside (one i) (out ∷ []) ≡ whole-write
+  pub told-write-outside : {i : ℕ} → a ≡ written.PathOutside i → told path-outside (eight (i ∷ [])) (out ∷ []) ≡ whole-write
   told-write-outside = as-written
 
-  pub told-not-proper : a ≡ written.NotProper → told not-proper (one 0) (out ∷ []) ≡ whole-write
+  pub told-not-proper : a ≡ written.NotProper → told not-proper (eight []) (out ∷ []) ≡ whole-write
   told-not-proper = as-written
 
-  pub told-too-large : a ≡ written.TooLarge → told too-large (one 0) (out ∷ []) ≡ whole-write
+  pub told-too-large : a ≡ written.TooLarge → told too-large (eight []) (out ∷ []) ≡ whole-write
   told-too-large = as-written
 
-  pub told-short-output : {size : ℕ} → a ≡ written.ShortOutput size → told short-output (one size) (out ∷ []) ≡ whole-write
+  pub told-short-output : {size : ℕ} → a ≡ written.ShortOutput size → told short-output (eight (size ∷ [])) (out ∷ []) ≡ whole-write
   told-short-output = as-written
 
 -- ---- searching
 
 module _ {a b : Found} where
-  pub told-at : {i k : ℕ} → a ≡ found.At i k → a ≡ b → told 0 (three 1 i k) [] ≡ tellFound b
+  pub told-at : {i k : ℕ} → a ≡ found.At i k → a ≡ b → told 0 (eight (1 ∷ i ∷ k ∷ [])) [] ≡ tellFound b
   told-at = alike tellFound
 
-  pub told-absent : {k : ℕ} → a ≡ found.Absent k → a ≡ b → told 0 (three 0 0 k) [] ≡ tellFound b
+  pub told-absent : {k : ℕ} → a ≡ found.Absent k → a ≡ b → told 0 (eight (0 ∷ 0 ∷ k ∷ [])) [] ≡ tellFound b
   told-absent = alike tellFound
 
-  pub told-no-stage : a ≡ found.NoStage → a ≡ b → told no-stage (one 0) [] ≡ tellFound b
+  pub told-no-stage : a ≡ found.NoStage → a ≡ b → told no-stage (eight []) [] ≡ tellFound b
   told-no-stage = alike tellFound
 
-  pub told-outside : {i : ℕ} → a ≡ found.PathOutside i → a ≡ b → told path-outside (one i) [] ≡ tellFound b
+  pub told-outside : {i : ℕ} → a ≡ found.PathOutside i → a ≡ b → told path-outside (eight (i ∷ [])) [] ≡ tellFound b
   told-outside = alike tellFound
 
 module _ {a b : Verified} where
-  pub told-sorted : a ≡ verified.Sorted → a ≡ b → told 0 (one 0) [] ≡ tellVerified b
+  pub told-sorted : a ≡ verified.Sorted → a ≡ b → told 0 (eight []) [] ≡ tellVerified b
   told-sorted = alike tellVerified
 
-  pub told-path-outside : {i : ℕ} → a ≡ verified.PathOutside i → a ≡ b → told path-outside (one i) [] ≡ tellVerified b
+  pub told-path-outside : {i : ℕ} → a ≡ verified.PathOutside i → a ≡ b → told path-outside (eight (i ∷ [])) [] ≡ tellVerified b
   told-path-outside = alike tellVerified
 
-  pub told-not-after : {i : ℕ} → a ≡ verified.NotAfter i → a ≡ b → told not-after (one i) [] ≡ tellVerified b
+  pub told-not-after : {i : ℕ} → a ≡ verified.NotAfter i → a ≡ b → told not-after (eight (i ∷ [])) [] ≡ tellVerified b
   told-not-after = alike tellVerified
 
 -- ---- extensions
 
 module _ {a b : Offset} where
-  pub told-offset : {place : FileAt} → a ≡ offset.Offset place → a ≡ b → told 0 (two 1 (place .0)) [] ≡ tellOffset b
+  pub told-offset : {place : FileAt} → a ≡ offset.Offset place → a ≡ b → told 0 (eight (1 ∷ place .0 ∷ [])) [] ≡ tellOffset b
   told-offset = alike tellOffset
 
-  pub told-no-offset : a ≡ offset.Nothing → a ≡ b → told 0 (one 0) [] ≡ tellOffset b
+  pub told-no-offset : a ≡ offset.Nothing → a ≡ b → told 0 (eight []) [] ≡ tellOffset b
   told-no-offset = alike tellOffset
 
 module _ {a b : Table} where
-  pub told-pairs : {n : ℕ} → a ≡ table.Pairs n → a ≡ b → told 0 (two 1 n) [] ≡ tellTable b
+  pub told-pairs : {n : ℕ} → a ≡ table.Pairs n → a ≡ b → told 0 (eight (1 ∷ n ∷ [])) [] ≡ tellTable b
   told-pairs = alike tellTable
 
-  pub told-no-table : a ≡ table.NoTable → a ≡ b → told 0 (one 0) [] ≡ tellTable b
+  pub told-no-table : a ≡ table.NoTable → a ≡ b → told 0 (eight []) [] ≡ tellTable b
   told-no-table = alike tellTable
 
 module _ {a b : Pair} where
-  pub told-pair : {from count : ℕ} → a ≡ pair.Pair from count → a ≡ b → told 0 (three 1 from count) [] ≡ tellPair b
+  pub told-pair : {from count : ℕ} → a ≡ pair.Pair from count → a ≡ b → told 0 (eight (1 ∷ from ∷ count ∷ [])) [] ≡ tellPair b
   told-pair = alike tellPair
 
-  pub told-no-pair : a ≡ pair.NoPair → a ≡ b → told 0 (one 0) [] ≡ tellPair b
+  pub told-no-pair : a ≡ pair.NoPair → a ≡ b → told 0 (eight []) [] ≡ tellPair b
   told-no-pair = alike tellPair
 
 module _ (from offset : ℕ) where

@@ -6,9 +6,10 @@ ghost use lib.ListN.{length};
 ghost use Rattle.wire.specs.Places.{fileAt};
 ghost use Rattle.format.specs.Format.{depthLimit, headerSize, idSize};
 ghost use Rattle.decode.specs.Entries.{readEntries};
+ghost use Rattle.file.specs.Answer.{carriedOf};
 ghost use Rattle.file.specs.Read.{readFile};
-ghost use Rattle.sparrowpivot.specs.Told.{told};
-ghost use Rattle.sparrowpivot.specs.Reading.{begin, readValues, tellRead, tellEntries};
+ghost use Rattle.sparrowpivot.specs.Told.{told, eight};
+ghost use Rattle.sparrowpivot.specs.Reading.{begin, tellRead, tellEntries};
 use decode::entries::Answer as Ran;
 use decode::entries::Before;
 use file::Answer;
@@ -17,7 +18,7 @@ use wire::PathAt;
 
 // What was read, or what a refusal carries.
 fn read_values(a: Answer) -> [u64; 8]
-    ensures { λ r. ⌜ r ≡ readValues a ⌝ }
+    ensures { λ r. ⌜ r ≡ eight (carriedOf a) ⌝ }
 {
     let first = file::carried(a);
     match a {

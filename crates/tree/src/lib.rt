@@ -1,7 +1,7 @@
 // The TREE extension: a node and its subtrees, in file order, into a lent node store. Where the tree is malformed, too deep or too large for the store, every byte
 // lent is zeroed.
 ghost use mathlib.Core.Path.{_≡_};
-ghost use Rattle.tree.specs.Tree.{nodeAt, settledAs, rootAt, readTree, answerOf, refusalOf};
+ghost use Rattle.tree.specs.Tree.{nodeAt, settledAs, rootAt, readTree, answerOf, numberOf};
 ghost use Rattle.siblings.specs.InOrder.{SoFar};
 use node::Head;
 use siblings::Rising;
@@ -157,7 +157,7 @@ pub fn read_tree(file: &[u8], start: usize, end: usize, nodes: &mut [u8]) -> Tre
 
 // The number that 01's table gives an answer; 0 for a tree, and for a malformed one, which refuses nothing.
 pub fn number(a: TreeAnswer) -> u32
-    ensures { λ r. ⌜ r ≡ refusalOf a ⌝ }
+    ensures { λ r. ⌜ r ≡ numberOf a ⌝ }
 {
     match a {
         TreeAnswer::Tree(_) => 0,

@@ -131,7 +131,7 @@ pub record Counted (rs ps : List ℕ) (version count size : ℕ) : Type 0 where
 
 -- ---- the answer
 
--- 01's number of each answer, 0 where the file is written, and what it carries
+-- 01's number of an answer, 0 where the file is written, and what goes with it: version and size, or what a refusal carries
 abbrev pub numberOf : Answer → ℕ
 numberOf (Done version size) = 0
 numberOf (PathOutside index) = path-outside
@@ -139,12 +139,12 @@ numberOf NotProper = not-proper
 numberOf TooLarge = too-large
 numberOf (ShortOutput size) = short-output
 
-abbrev pub carriedBy : Answer → List ℕ
-carriedBy (Done version size) = version ∷ size ∷ []
-carriedBy (PathOutside index) = index ∷ []
-carriedBy NotProper = []
-carriedBy TooLarge = []
-carriedBy (ShortOutput size) = size ∷ []
+abbrev pub carriedOf : Answer → List ℕ
+carriedOf (Done version size) = version ∷ size ∷ []
+carriedOf (PathOutside index) = index ∷ []
+carriedOf NotProper = []
+carriedOf TooLarge = []
+carriedOf (ShortOutput size) = size ∷ []
 
 -- what writing comes to: the answer, and what the output holds
 pub record Outcome : Type 0 where
