@@ -22,7 +22,7 @@ use Rattle.file.specs.Answer.{numberOf, carriedOf}
 use Rattle.file.specs.Read.{outcome}
 use Rattle.file.specs.declared.Answer.{Answer}
 use Rattle.write.specs.declared.Options.{Options}
-use Rattle.write.specs.Entries.{isGone}
+use Rattle.write_entries.specs.Entries.{isGone}
 use Rattle.grammar.specs.Number.{bigEndian}
 use Rattle.grammar.specs.Entry.{Meaning}
 use Rattle.grammar.specs.Tree.{Tree}

@@ -16,7 +16,7 @@ use Rattle.grammar.specs.File.{versionOf, countOf, space}
 use Rattle.file.specs.Read as file
 use Rattle.file.specs.declared.Answer.{Answer}
 use Rattle.file.specs.declared.Answer.the-variants as answer
-use Rattle.write.specs.Entries.{First, found, nowhere, firstFault, onFirst}
+use Rattle.write_entries.specs.Entries.{First, found, nowhere, firstFault, onFirst}
 use Rattle.write.specs.File as write
 use Rattle.write.specs.declared.Options.{Options}
 use Rattle.write.specs.declared.Answer.{Answer as Wrote}

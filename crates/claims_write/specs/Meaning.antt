@@ -11,7 +11,7 @@ use Rattle.entry.specs.Flags.{bit, extended, toStorage, keepFlags}
 use Rattle.entry.specs.Record.{recordsIn, fieldAt, modeAt, flagsAt, stageAt, idAt, liesInside, pathAt}
 use Rattle.entry.specs.Stat.{statAt}
 use Rattle.grammar.specs.Entry.{Stat, Meaning, meaning, keptMode, NoNul, fullField}
-use Rattle.write.specs.Entries.{isGone}
+use Rattle.write_entries.specs.Entries.{isGone}
 
 -- ---- one record
 

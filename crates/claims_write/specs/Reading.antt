@@ -29,7 +29,7 @@ use Rattle.claims_tree.specs.Said.{lent, KeepsWithinDepth, HasRoom}
 use Rattle.claims.specs.Premises.{Slices, trailer, GoodTrailer, zeros, hashed}
 use Rattle.claims.specs.Claims.{LastTREE, TreeFits, Renders, stores-are-the-meaning}
 use Rattle.write.specs.declared.Options.{Options}
-use Rattle.write.specs.Entries.{tableBytes}
+use Rattle.write_entries.specs.Entries.{tableBytes}
 use Rattle.write.specs.File.{headerOf, trailerOf, fileOf, writesTree, bodyBytes, fileBytes, most, versionOf as versionWritten}
 use Rattle.write.specs.Parts.{length-header, length-trailer}
 use Rattle.claims_write.specs.Meaning.{meaningOf, keptOf, meaningsOf, PathsEnd}

@@ -25,12 +25,13 @@ use Rattle.claims_extension.specs.Said.{either-marks}
 use Rattle.tree_write.specs.Tree.{treeBytes}
 use Rattle.write.specs.declared.Options.{Options}
 use Rattle.write.specs.declared.Answer.the-variants.{Done, PathOutside, NotProper, TooLarge, ShortOutput}
-use Rattle.write.specs.Entries.{isGone, First, found, nowhere, firstFault, onFirst, keptOf, countOf, anyExtended, tableBytes}
-use Rattle.write.specs.File.{headerOf, versionOf, treeHead, sparsePart, contents, eoiePart, trailerOf, frontOf, extensionsOf, bodyOf, offsetOf, closedOf, fileOf, writesTree, hasEoie, treeOf, treeFits, bodyBytes, fileBytes, Outcome, outcome, most, writeFile, writeAll}
+use Rattle.write_entries.specs.Entries.{isGone, First, found, nowhere, firstFault, onFirst, keptOf, countOf, anyExtended, tableBytes}
+use Rattle.write.specs.File.{headerOf, versionOf, contents, eoiePart, trailerOf, frontOf, extensionsOf, extensionsAsked, bodyOf, offsetOf, closedOf, fileOf, writesTree, hasEoie, treeFits, bodyBytes, fileBytes, Outcome, outcome, most, writeFile, writeAll}
 use Rattle.sha1.specs.Length.{length-sha1}
 use Rattle.write.specs.Parts.{length-trailer}
 use Rattle.claims_write.specs.Meaning.{meaningsOf, PathsEnd}
 use Rattle.claims_write.specs.Entries.{big, entries-spelled}
+use Rattle.write.specs.Extensions.{length-extensions, signed-for, size-for}
 use Rattle.claims_write.specs.Extensions.{extensionsMeant, extensions-spelled, marks-sdir, last-tree, no-tree as no-TREE}
 
 -- ---- THE MEANING
@@ -139,7 +140,7 @@ module _ (rs ps ns nm : List ℕ) (o : Options) where
   has = hasEoie records o
 
   abbrev pub toc : List ℕ
-  toc = contents (writesTree o) (length (treeOf idSize depthLimit ns nm (writesTree o))) (o .sparse)
+  toc = contents (extensionsAsked idSize depthLimit ns nm o)
 
   -- EOIE's body: where the extensions start, and the hash of their signatures and sizes
   abbrev pub eoieBody : List ℕ
@@ -154,20 +155,18 @@ module _ (rs ps ns nm : List ℕ) (o : Options) where
 
   -- what stands between the entries and the trailer
   abbrev pub behindEntries : List ℕ
-  behindEntries = extensionsOf (writesTree o) (treeOf idSize depthLimit ns nm (writesTree o)) (o .sparse) ++ eoiePart idSize sha1 has (offsetOf idSize rs ps) toc
+  behindEntries = extensionsOf (extensionsAsked idSize depthLimit ns nm o) ++ eoiePart idSize sha1 has (offsetOf idSize rs ps) toc
 
   abbrev pub count : ℕ
   count = countOf rs records 0
 
   pub tree-small : length (bodyBytes idSize depthLimit rs ps ns nm o) ≤ most → writesTree o ≡ true → length (treeBody ns nm) < 2 ^ 32
-  unfolding bodyBytes bodyOf extensionsOf treeOf
+  unfolding bodyBytes bodyOf
   tree-small h e =
       let front : List ℕ = frontOf idSize rs ps (versionOf rs) count in
       let part : Bool → List ℕ = λ w. pick w (treeBody ns nm) [] in
-      let tree : List ℕ = part (writesTree o) in
-      let head : List ℕ = treeHead (writesTree o) (length tree) in
-      let same : tree ≡ treeBody ns nm = ap part e in
-      omega (arith, length-append front ((head ++ tree) ++ sparsePart (o .sparse)), length-append (head ++ tree) (sparsePart (o .sparse)), length-append head tree, ap length same)
+      let same : part (writesTree o) ≡ treeBody ns nm = ap part e in
+      omega (arith, length-append front (extensionsOf (extensionsAsked idSize depthLimit ns nm o)), length-extensions (signed-for (writesTree o) (treeBody ns nm) (o .sparse)), size-for (writesTree o) (treeBody ns nm) (o .sparse), ap length same)
 
   cache-tree : CacheTree idSize (headerLength + length (tableBytes idSize rs ps)) extensionsHere (treeMeant rs ps ns nm o)
   cache-tree = by (writesTree o)
@@ -187,7 +186,7 @@ module _ (rs ps ns nm : List ℕ) (o : Options) where
   written-parts =
       let h : List ℕ = headerOf (versionOf rs) count in
       let t : List ℕ = tableBytes idSize rs ps in
-      let x : List ℕ = extensionsOf (writesTree o) (treeOf idSize depthLimit ns nm (writesTree o)) (o .sparse) in
+      let x : List ℕ = extensionsOf (extensionsAsked idSize depthLimit ns nm o) in
       let e : List ℕ = eoiePart idSize sha1 has (offsetOf idSize rs ps) toc in
       let r : List ℕ = trailerOf idSize sha1 (o .unhashed) (((h ++ t) ++ x) ++ e) in
       append-assoc ((h ++ t) ++ x) e r ∙ append-assoc (h ++ t) x (e ++ r) ∙ append-assoc h t (x ++ (e ++ r)) ∙ ap (λ (l : List ℕ). h ++ (t ++ l)) (sym (append-assoc x e r))
@@ -197,7 +196,6 @@ module _ (rs ps ns nm : List ℕ) (o : Options) where
     header-here = header-spelled (versionOf rs) count (version-small (anyExtended rs records 0)) (supported (anyExtended rs records 0)) (omega (arith, count-small rs records 0))
 
     pub extensions-here : Extensions behindEntries extensionsHere
-    unfolding treeOf
     extensions-here = extensions-spelled idSize sha1 (writesTree o) (treeBody ns nm) (o .sparse) has (offsetOf idSize rs ps) toc (tree-small short) (lit< tt) (length-sha1 toc)
 
     pub entries-here : PathsEnd rs ps → Entries idSize (versionOf rs) start count (tableBytes idSize rs ps) (meaningsOf idSize rs ps)

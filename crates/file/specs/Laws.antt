@@ -47,23 +47,23 @@ pub tree-malformed : (e : Entries) (t : TreeAnswer) → t ≡ grown.Malformed �
 tree-malformed e t q = sym (rw q)
 
 -- ---- the extensions
-module _ (s : List ℕ) (next : FileAt) (e : Entries) (ns : List ℕ) (w : Walked) (ew : w ≡ walkAt s (next .0) (length s - idSize) TREE) where
-  walked-to : extensionsInto idSize depthLimit s (next .0) e ns ≡ onWalked idSize depthLimit s e ns w
+module _ (s : List ℕ) (next end : FileAt) (e : Entries) (ns : List ℕ) (w : Walked) (ew : w ≡ walkAt s (next .0) (end .0) TREE) where
+  walked-to : extensionsInto idSize depthLimit s (next .0) (end .0) e ns ≡ onWalked idSize depthLimit s e ns w
   unfolding extensionsInto
   walked-to = rw ew
 
-  pub not-filled : (place : FileAt) → w ≡ walked.NotFilled place → (answer.NotFilled (place .0), ns) ≡ extensionsInto idSize depthLimit s (next .0) e ns
+  pub not-filled : (place : FileAt) → w ≡ walked.NotFilled place → (answer.NotFilled (place .0), ns) ≡ extensionsInto idSize depthLimit s (next .0) (end .0) e ns
   not-filled place q = sym (walked-to ∙ rw q)
 
-  pub mandatory : (sig : ℕ) → w ≡ walked.Mandatory sig → (answer.Mandatory sig, ns) ≡ extensionsInto idSize depthLimit s (next .0) e ns
+  pub mandatory : (sig : ℕ) → w ≡ walked.Mandatory sig → (answer.Mandatory sig, ns) ≡ extensionsInto idSize depthLimit s (next .0) (end .0) e ns
   mandatory sig q = sym (walked-to ∙ rw q)
 
   module _ (mark : Bool) (body : Body) (q : w ≡ walked.Filled mark body) (all : Entries) (ea : all ≡ marked e mark) (a : Answer) where
-    pub no-tree : body ≡ Missing → a ≡ withTree all grown.Malformed → (a, ns) ≡ extensionsInto idSize depthLimit s (next .0) e ns
+    pub no-tree : body ≡ Missing → a ≡ withTree all grown.Malformed → (a, ns) ≡ extensionsInto idSize depthLimit s (next .0) (end .0) e ns
     no-tree b f = ap (λ (x : Answer). (x, ns)) (f ∙ ap (λ (x : Entries). withTree x grown.Malformed) ea) ∙ sym (walked-to ∙ rw (q, b))
 
     pub last-tree : (start stop : FileAt) → body ≡ Lies start stop → (t : TreeAnswer) (ms : List ℕ) → (t, ms) ≡ readTree idSize depthLimit s (start .0) (stop .0) ns → a ≡ withTree all t
-        → (a, ms) ≡ extensionsInto idSize depthLimit s (next .0) e ns
+        → (a, ms) ≡ extensionsInto idSize depthLimit s (next .0) (end .0) e ns
     last-tree start stop b t ms g f = ap (λ (x : Answer). (x, ms)) (f ∙ ap (λ (x : Entries). withTree x t) ea) ∙ sym (walked-to ∙ rw (q, b, ← g))
 
 -- ---- the entries
@@ -80,7 +80,7 @@ module _ (s : List ℕ) (version count : ℕ) (rs ps ns rs₁ ps₁ : List ℕ) 
   no-room k q = sym (ran-to ∙ rw q)
 
   pub entries-done : (next : FileAt) (used : PathAt) (sparse : Bool) → r ≡ ran.Done next used sparse → (a : Answer) (ns₁ : List ℕ)
-      → (a, ns₁) ≡ extensionsInto idSize depthLimit s (next .0) (record { version = version; sparse = sparse; records = count; used = used .0 }) ns → outcome a rs₁ ps₁ ns₁ ≡ entriesInto idSize depthLimit s version count rs ps ns
+      → (a, ns₁) ≡ extensionsInto idSize depthLimit s (next .0) (length s - idSize) (record { version = version; sparse = sparse; records = count; used = used .0 }) ns → outcome a rs₁ ps₁ ns₁ ≡ entriesInto idSize depthLimit s version count rs ps ns
   entries-done next used sparse q a ns₁ g = ap (withNodes rs₁ ps₁) g ∙ sym (ran-to ∙ rw q)
 
 -- ---- the file

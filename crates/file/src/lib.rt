@@ -179,12 +179,10 @@ fn with_tree(e: Entries, t: TreeAnswer) -> Answer
     }
 }
 
-// The extensions from `next` on, and the last TREE's nodes.
-fn read_extensions(file: &[u8], next: FileAt, e: Entries, nodes: &mut [u8]) -> Answer
-    requires { ⌜ idSize ≤ length (now file) ⌝ }
-    ensures { λ r. ⌜ (r, now (nodes .exit)) ≡ extensionsInto idSize depthLimit (now (file .entry)) (next .0) e (now (nodes .entry)) ⌝ }
+// The extensions from `next` on, which fill the space before `end`, and the last TREE's nodes.
+fn read_extensions(file: &[u8], next: FileAt, end: FileAt, e: Entries, nodes: &mut [u8]) -> Answer
+    ensures { λ r. ⌜ (r, now (nodes .exit)) ≡ extensionsInto idSize depthLimit (now (file .entry)) (next .0) (end .0) e (now (nodes .entry)) ⌝ }
 {
-    let end = FileAt(file.len() - format::ID_SIZE);
     let w = extension::decode::walk(file, next, end, extension::TREE);
     match w {
         Walked::NotFilled(place) => Answer::NotFilled(place.0),
@@ -244,7 +242,7 @@ fn read_entries(
                 records: count,
                 used: used.0,
             };
-            read_extensions(file, next, e, nodes)
+            read_extensions(file, next, end, e, nodes)
         }
     }
 }

@@ -191,7 +191,7 @@ module _ (s : List ℕ) (bytes : (i : ℕ) → getD s i 0 < 256) (m : ℕ) (line
           by : {v : ℕ} → SaysWalk s next (length s - idSize) TREE (walked.Mandatory v) → v ≤ most
           by (is-mandatory c f) = mandatory-small c f
 
-      extensions-fit : Fits (extensionsInto idSize depthLimit s next e ns .0)
+      extensions-fit : Fits (extensionsInto idSize depthLimit s next (length s - idSize) e ns .0)
       unfolding extensionsInto
       extensions-fit = walked-fits (walkAt s next (length s - idSize) TREE) refl
 

@@ -11,17 +11,18 @@ use Rattle.laws.specs.Put.{put, put-front}
 use Rattle.sums.specs.Cap.{cap, cap-fits, cap-le, cap-below}
 use Rattle.format.specs.Format.{depthLimit, idSize}
 use Rattle.sha1.specs.Sha1.{sha1}
+use Rattle.tree_write.specs.Tree.{treeBytes}
 use Rattle.entry.specs.Record.{recordsIn}
 use Rattle.write.specs.declared.Options.{Options}
 use Rattle.write.specs.declared.Answer.{Answer}
 use Rattle.write.specs.declared.Answer.the-variants.{Done, PathOutside, NotProper, TooLarge, ShortOutput}
-use Rattle.write.specs.declared.entries.Sized.{Sized}
-use Rattle.write.specs.declared.entries.Sized.the-variants as sized
-use Rattle.write.specs.Entries.{isGone, tableBytes, keptOf, countOf, First, found, nowhere, firstFault, onFirst, sizeTable}
-use Rattle.write.specs.Size.{size-is}
+use Rattle.write_entries.specs.declared.Sized.{Sized}
+use Rattle.write_entries.specs.declared.Sized.the-variants as sized
+use Rattle.write_entries.specs.Entries.{isGone, tableBytes, keptOf, countOf, First, found, nowhere, firstFault, onFirst, sizeTable}
+use Rattle.write_entries.specs.Size.{size-is}
 use Rattle.write.specs.Parts.{length-trailer}
 use Rattle.write.proofs.Whole.{length-body, body-size, length-eoie-part}
-use Rattle.write.specs.File.{versionOf, headSize, endSize, contents, eoiePart, trailerOf, bodyOf, offsetOf, closedOf, fileOf, writesTree, hasEoie, treeOf, treeFits, bodyBytes, fileBytes, Counted, most, outcome, writeFile, writeAll}
+use Rattle.write.specs.File.{versionOf, headSize, endSize, extensionsFor, extensionsAsked, contents, eoiePart, trailerOf, bodyOf, offsetOf, closedOf, fileOf, writesTree, hasEoie, treeOf, treeFits, bodyBytes, fileBytes, Counted, most, outcome, writeFile, writeTable, writeAll}
 
 -- ---- counts
 
@@ -61,12 +62,12 @@ module _ (rs ps ns nm : List ℕ) (o : Options) where
   pub length-file : length (fileBytes idSize sha1 depthLimit rs ps ns nm o) ≡ length (bodyBytes idSize depthLimit rs ps ns nm o) + endSize idSize (hasEoie (recordsIn rs) o)
   unfolding fileBytes fileOf closedOf
   length-file =
-      let toc : List ℕ = contents (writesTree o) (length (treeOf idSize depthLimit ns nm (writesTree o))) (o .sparse) in
+      let toc : List ℕ = contents (extensionsAsked idSize depthLimit ns nm o) in
       let e : List ℕ = eoiePart idSize sha1 (hasEoie (recordsIn rs) o) (offsetOf idSize rs ps) toc in
       omega (arith, length-append (body ++ e) (trailerOf idSize sha1 (o .unhashed) (body ++ e)), length-append body e, length-trailer (o .unhashed) (body ++ e), length-eoie-part (hasEoie (recordsIn rs) o) (offsetOf idSize rs ps) toc)
 
   abbrev answer : List ℕ → Answer → List ℕ → Type 0
-  answer out a out₁ = outcome a out₁ ≡ writeFile (recordsIn rs) (versionOf rs) (bodyBytes idSize depthLimit rs ps ns nm o) (fileBytes idSize sha1 depthLimit rs ps ns nm o) out
+  answer out a out₁ = outcome a out₁ ≡ writeTable idSize sha1 depthLimit rs ps ns nm o out
 
   pub records-many : (out : List ℕ) (n : ℕ) → n ≡ recordsIn rs → most < n → answer out TooLarge out
   unfolding writeFile
@@ -80,7 +81,7 @@ module _ (rs ps ns nm : List ℕ) (o : Options) where
     body-is : b ≡ cap (length (bodyBytes idSize depthLimit rs ps ns nm o))
     unfolding bodyBytes
     body-is =
-        body-size rs ps (versionOf rs) (countOf rs (recordsIn rs) 0) (writesTree o) (treeOf idSize depthLimit ns nm (writesTree o)) (o .sparse) size t b (known .sized) (et ∙ ap (λ (w : Bool). cap (length (treeOf idSize depthLimit ns nm w))) ew)
+        body-size rs ps ns nm (versionOf rs) (countOf rs (recordsIn rs) 0) (writesTree o) (o .sparse) size t b (known .sized) (et ∙ ap (λ (w : Bool). cap (length (treeOf idSize depthLimit ns nm w))) ew)
         (eb ∙ ap (λ (w : Bool). cap (cap (cap (size + headSize w) + t) + headSize (o .sparse))) ew)
 
     pub body-large : (out : List ℕ) → most < b → answer out TooLarge out
@@ -98,7 +99,7 @@ module _ (rs ps ns nm : List ℕ) (o : Options) where
 
       parts : length (bodyBytes idSize depthLimit rs ps ns nm o) ≡ 12 + length (tableBytes idSize rs ps) + headSize (writesTree o) + length (treeOf idSize depthLimit ns nm (writesTree o)) + headSize (o .sparse)
       unfolding bodyBytes
-      parts = length-body rs ps (versionOf rs) (countOf rs (recordsIn rs) 0) (writesTree o) (treeOf idSize depthLimit ns nm (writesTree o)) (o .sparse)
+      parts = length-body rs ps ns nm (versionOf rs) (countOf rs (recordsIn rs) 0) (writesTree o) (o .sparse)
 
       pub offset-small : offsetOf idSize rs ps ≤ most
       offset-small = omega (arith, body-small, parts)
@@ -122,21 +123,20 @@ module _ (rs ps ns nm : List ℕ) (o : Options) where
             let k : length out < length (fileBytes idSize sha1 depthLimit rs ps ns nm o) = omega (arith, whole-is) in
             ap (λ (x : ℕ). outcome (ShortOutput x) out) whole-is ∙ sym (rw (le-ltb most (recordsIn rs) few-records, le-ltb most (length (bodyBytes idSize depthLimit rs ps ns nm o)) body-small, lt-ltb (length out) (length (fileBytes idSize sha1 depthLimit rs ps ns nm o)) k))
 
-        same-body : bodyOf idSize rs ps version count writes (treeOf idSize depthLimit ns nm writes) (o .sparse) ≡ bodyBytes idSize depthLimit rs ps ns nm o
+        same-body : bodyOf idSize rs ps version count (extensionsFor writes (treeBytes idSize depthLimit ns nm) (o .sparse)) ≡ bodyBytes idSize depthLimit rs ps ns nm o
         unfolding bodyBytes
-        same-body = λ j. bodyOf idSize rs ps (known .versioned j) (known .counted j) (ew j) (treeOf idSize depthLimit ns nm (ew j)) (o .sparse)
+        same-body = λ j. bodyOf idSize rs ps (known .versioned j) (known .counted j) (extensionsFor (ew j) (treeBytes idSize depthLimit ns nm) (o .sparse))
 
-        pub file-room : (m : ℕ) → b + e ≤ m → length (bodyOf idSize rs ps version count writes (treeOf idSize depthLimit ns nm writes) (o .sparse)) + endSize idSize h ≤ m
+        pub file-room : (m : ℕ) → b + e ≤ m → length (bodyOf idSize rs ps version count (extensionsFor writes (treeBytes idSize depthLimit ns nm) (o .sparse))) + endSize idSize h ≤ m
         file-room m fits = omega (arith, ap length same-body, body-same)
 
-        same-file : fileOf idSize sha1 (closedOf idSize sha1 (bodyOf idSize rs ps version count writes (treeOf idSize depthLimit ns nm writes) (o .sparse)) h (offsetOf idSize rs ps) (contents writes t (o .sparse))) (o .unhashed) ≡ fileBytes idSize sha1 depthLimit rs ps ns nm o
+        same-file : fileOf idSize sha1 (closedOf idSize sha1 (bodyOf idSize rs ps version count (extensionsFor writes (treeBytes idSize depthLimit ns nm) (o .sparse))) h (offsetOf idSize rs ps) (contents (extensionsFor writes (treeBytes idSize depthLimit ns nm) (o .sparse)))) (o .unhashed) ≡ fileBytes idSize sha1 depthLimit rs ps ns nm o
         unfolding fileBytes
         same-file =
-            let el : t ≡ length (treeOf idSize depthLimit ns nm (writesTree o)) = tree-same ∙ tree-own in
-            λ j. fileOf idSize sha1 (closedOf idSize sha1 (same-body j) (has-is j) (offsetOf idSize rs ps) (contents (ew j) (el j) (o .sparse))) (o .unhashed)
+            λ j. fileOf idSize sha1 (closedOf idSize sha1 (same-body j) (has-is j) (offsetOf idSize rs ps) (contents (extensionsFor (ew j) (treeBytes idSize depthLimit ns nm) (o .sparse)))) (o .unhashed)
 
         pub file-done : (out : List ℕ) → b + e ≤ length out → (out₁ : List ℕ)
-            → out₁ ≡ put out 0 (fileOf idSize sha1 (closedOf idSize sha1 (bodyOf idSize rs ps version count writes (treeOf idSize depthLimit ns nm writes) (o .sparse)) h (offsetOf idSize rs ps) (contents writes t (o .sparse))) (o .unhashed))
+            → out₁ ≡ put out 0 (fileOf idSize sha1 (closedOf idSize sha1 (bodyOf idSize rs ps version count (extensionsFor writes (treeBytes idSize depthLimit ns nm) (o .sparse))) h (offsetOf idSize rs ps) (contents (extensionsFor writes (treeBytes idSize depthLimit ns nm) (o .sparse)))) (o .unhashed))
             → answer out (Done version (b + e)) out₁
         unfolding writeFile
         file-done out fits out₁ q =
@@ -183,7 +183,7 @@ module _ (rs ps : List ℕ) (a : Sized) (is : a ≡ sizeTable idSize rs ps) wher
       write-improper h = sym (rw (all .0, fitting h))
 
       pub write-fitting : t ≡ true → (r : Answer) (out₁ : List ℕ)
-          → outcome r out₁ ≡ writeFile (recordsIn rs) (versionOf rs) (bodyBytes idSize depthLimit rs ps ns nm o) (fileBytes idSize sha1 depthLimit rs ps ns nm o) out → outcome r out₁ ≡ writeAll idSize sha1 depthLimit rs ps ns nm o out
+          → outcome r out₁ ≡ writeTable idSize sha1 depthLimit rs ps ns nm o out → outcome r out₁ ≡ writeAll idSize sha1 depthLimit rs ps ns nm o out
       unfolding writeAll
       write-fitting h r out₁ e = e ∙ sym (rw (all .0, fitting h))
 

@@ -11,22 +11,22 @@ use Rattle.sha1.specs.Sha1.{sha1}
 use Rattle.entry.specs.Record.{recordsIn}
 use Rattle.write.specs.declared.Options.{Options}
 use Rattle.sha1.specs.Length.{length-sha1}
-use Rattle.write.specs.Entries.{countOf, tableBytes}
-use Rattle.write.specs.File.{headerOf, versionOf, extensionHead, treeSignature, sparseSignature, eoieSignature, treeHead, sparsePart, contents, eoiePart, trailerOf, frontOf, extensionsOf, bodyOf, offsetOf, closedOf, fileOf, headSize, writesTree, hasEoie, treeOf, bodyBytes, fileBytes}
+use Rattle.write_entries.specs.Entries.{countOf, tableBytes}
+use Rattle.write.specs.File.{headerOf, versionOf, extensionHead, treeSignature, sparseSignature, eoieSignature, treeHead, sparsePart, contents, eoiePart, trailerOf, frontOf, extensionsOf, bodyOf, offsetOf, closedOf, fileOf, headSize, hasEoie, extensionsAsked, bodyBytes, fileBytes}
 
 -- all but the trailer is header, entries, extensions and EOIE; `eoie` is the last part, whatever it holds
 pub closed-parts : (id limit : ℕ) (rs ps ns nm : List ℕ) (o : Options) (eoie : List ℕ)
     → bodyBytes id limit rs ps ns nm o ++ eoie
-    ≡ headerOf (versionOf rs) (countOf rs (recordsIn rs) 0) ++ (tableBytes id rs ps ++ (extensionsOf (writesTree o) (treeOf id limit ns nm (writesTree o)) (o .sparse) ++ eoie))
+    ≡ headerOf (versionOf rs) (countOf rs (recordsIn rs) 0) ++ (tableBytes id rs ps ++ (extensionsOf (extensionsAsked id limit ns nm o) ++ eoie))
 unfolding bodyBytes bodyOf frontOf
 closed-parts id limit rs ps ns nm o eoie = simp append-assoc
 
 -- the whole file is that and the trailer over it
 pub file-parts : (id : ℕ) (hash : List ℕ → List ℕ) (limit : ℕ) (rs ps ns nm : List ℕ) (o : Options)
     → fileBytes id hash limit rs ps ns nm o
-    ≡ (bodyBytes id limit rs ps ns nm o ++ eoiePart id hash (hasEoie (recordsIn rs) o) (offsetOf id rs ps) (contents (writesTree o) (length (treeOf id limit ns nm (writesTree o))) (o .sparse)))
+    ≡ (bodyBytes id limit rs ps ns nm o ++ eoiePart id hash (hasEoie (recordsIn rs) o) (offsetOf id rs ps) (contents (extensionsAsked id limit ns nm o)))
     ++ trailerOf id hash (o .unhashed)
-    (bodyBytes id limit rs ps ns nm o ++ eoiePart id hash (hasEoie (recordsIn rs) o) (offsetOf id rs ps) (contents (writesTree o) (length (treeOf id limit ns nm (writesTree o))) (o .sparse)))
+    (bodyBytes id limit rs ps ns nm o ++ eoiePart id hash (hasEoie (recordsIn rs) o) (offsetOf id rs ps) (contents (extensionsAsked id limit ns nm o)))
 unfolding fileBytes fileOf closedOf
 file-parts id hash limit rs ps ns nm o = refl
 
