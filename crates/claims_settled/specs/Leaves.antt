@@ -23,6 +23,9 @@ plus-settled κs a z z′ w w′ = settled (λ r. (r, w))
 pub hex-line-settled : Settles show.hex_line.Kinds.ps show.hex_line.Kinds.r show.hex_line.Reads.Learnt
 hex-line-settled κs a z z′ w w′ = settled (λ r. (r, w))
 
+pub hex-byte-settled : Settles show.hex_byte.Kinds.ps show.hex_byte.Kinds.r show.hex_byte.Reads.Learnt
+hex-byte-settled κs a z z′ w w′ = settled (λ r. (r, w))
+
 -- ---- `slices`
 
 pub copy-bytes-settled : Settles slices.copy_bytes.Kinds.ps slices.copy_bytes.Kinds.r slices.copy_bytes.Reads.Learnt

@@ -13,18 +13,13 @@ use Rattle.laws.specs.Lists.{length-part}
 use Rattle.laws.specs.Paste.{paste-take}
 use Rattle.laws.specs.Put.{put, put-none, put-put, set-put, length-put}
 use Rattle.wire.specs.Written.{digitsOf, size-one, size-more}
-use Rattle.show.specs.Hex.{hex}
+use Rattle.show.specs.Hex.{hex, length-hex}
 use Rattle.entry.specs.Record.{modeAt, idAt, stageAt, pathAt}
 use Rattle.entry.specs.Laws.{id-is, id-out}
 use Rattle.lines.specs.Lines.{octal, headOf, lineOf, lineAt, linesFrom, refusedWord, tailOf, refusedText}
 use Rattle.lines.specs.Written.{cap, copied, cap-fits, cap-cap, cap-small, plus-over, plus-fits, text-short, text-fits, text-written}
 
 -- ---- a line
-
-length-hex : (s : List ℕ) → length (hex s) ≡ length s * 2
-unfolding hex
-length-hex [] = refl
-length-hex (x ∷ s) = let h : length (hex s) ≡ length s * 2 = length-hex s in omega arith
 
 pub octal-six : (m a b c d e f g : ℕ) → a ≡ 48 + m / 8 / 8 / 8 / 8 / 8 % 8 → b ≡ 48 + m / 8 / 8 / 8 / 8 % 8 → c ≡ 48 + m / 8 / 8 / 8 % 8 → d ≡ 48 + m / 8 / 8 % 8 → e ≡ 48 + m / 8 % 8 → f ≡ 48 + m % 8
     → a ∷ b ∷ c ∷ d ∷ e ∷ f ∷ g ∷ [] ≡ octal 6 m ++ (g ∷ [])
