@@ -10,7 +10,7 @@ use Rattle.file.specs.declared.Answer.the-variants as answer
 use Rattle.file.proofs.Answer as declared
 use Rattle.sparrowpivot.specs.Told.{one}
 use Rattle.sparrowpivot.specs.Reading.{readValues}
-use Rattle.sparrowpivot.specs.Laws.{laws}
+use Rattle.sparrowpivot.proofs.Laws.{laws}
 use borrow.Author.Needs.{needs}
 use Rattle.sparrowpivot.proofs.reading.read_values.Statement.{statement}
 use Rattle.sparrowpivot.proofs.reading.read_values.Tie as tie
