@@ -9,10 +9,16 @@ use Rattle.claims_settled.specs.Law.{Settles, both, settled}
 
 -- ---- `sums`
 
-pub plus-settled : Settles sums.plus.Kinds.ps sums.plus.Kinds.r sums.plus.Reads.Learnt
-plus-settled κs a z z′ w w′ = settled (λ r. (r, w))
+pub saturating-add-settled : Settles sums.saturating_add.Kinds.ps sums.saturating_add.Kinds.r sums.saturating_add.Reads.Learnt
+saturating-add-settled κs a z z′ w w′ = settled (λ r. (r, w))
+
+pub saturating-sub-settled : Settles sums.saturating_sub.Kinds.ps sums.saturating_sub.Kinds.r sums.saturating_sub.Reads.Learnt
+saturating-sub-settled κs a z z′ w w′ = settled (λ r. (r, w))
 
 -- ---- `show`
+
+pub hex-byte-settled : Settles show.hex_byte.Kinds.ps show.hex_byte.Kinds.r show.hex_byte.Reads.Learnt
+hex-byte-settled κs a z z′ w w′ = settled (λ r. (r, w))
 
 pub hex-line-settled : Settles show.hex_line.Kinds.ps show.hex_line.Kinds.r show.hex_line.Reads.Learnt
 hex-line-settled κs a z z′ w w′ = settled (λ r. (r, w))

@@ -19,23 +19,16 @@ pub enum Extensions {
     NotTold,
 }
 
-// Subtraction that stops at 0.
-fn less(a: usize, b: usize) -> usize
-    ensures { λ r. ⌜ r ≡ a - b ⌝ }
-{
-    if a < b {
-        return 0;
-    }
-    a - b
-}
-
 // The bytes between the header and the extensions, or the trailer where these are not told.
 fn entries_block_size_in_bytes(size: usize, extensions: Extensions, id: usize) -> usize
     ensures { λ r. ⌜ r ≡ blockSize size extensions id ⌝ }
 {
     match extensions {
-        Extensions::From(offset) => less(offset, format::HEADER_SIZE),
-        Extensions::NotTold => less(less(size, id), format::HEADER_SIZE),
+        Extensions::From(offset) => sums::saturating_sub(offset, format::HEADER_SIZE),
+        Extensions::NotTold => {
+            let before = sums::saturating_sub(size, id);
+            sums::saturating_sub(before, format::HEADER_SIZE)
+        },
     }
 }
 
@@ -194,7 +187,7 @@ fn run_entries(file: &[u8], r: Run, b: Before, records: &mut [u8], paths: &mut [
     }
 }
 
-fn least_of(a: usize, b: usize) -> usize
+fn min(a: usize, b: usize) -> usize
     ensures { λ r. ⌜ r ≡ least a b ⌝ }
 {
     if b < a {
@@ -221,8 +214,8 @@ pub fn read_entries(
     let place = before.used;
     let first = before.first;
     let length = before.length;
-    let used = least_of(place.0, paths.len());
-    let prev = least_of(length, used);
+    let used = min(place.0, paths.len());
+    let prev = min(length, used);
     let r = Run {
         from,
         end,

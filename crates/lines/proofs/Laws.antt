@@ -13,18 +13,14 @@ use Rattle.laws.specs.Lists.{length-part}
 use Rattle.laws.specs.Paste.{paste-take}
 use Rattle.laws.specs.Put.{put, put-none, put-put, set-put, length-put}
 use Rattle.wire.specs.Written.{digitsOf, size-one, size-more}
-use Rattle.show.specs.Hex.{hex}
+use Rattle.show.specs.Hex.{hex, length-hex}
 use Rattle.entry.specs.Record.{modeAt, idAt, stageAt, pathAt}
 use Rattle.entry.specs.Laws.{id-is, id-out}
 use Rattle.lines.specs.Lines.{octal, headOf, lineOf, lineAt, linesFrom, refusedWord, tailOf, refusedText}
-use Rattle.lines.specs.Written.{cap, copied, cap-fits, cap-cap, cap-small, plus-over, plus-fits, text-short, text-fits, text-written}
+use Rattle.sums.specs.Cap.{largest, cap, cap-fits, cap-cap, cap-small}
+use Rattle.lines.specs.Written.{copied, text-short, text-fits, text-written}
 
 -- ---- a line
-
-length-hex : (s : List ℕ) → length (hex s) ≡ length s * 2
-unfolding hex
-length-hex [] = refl
-length-hex (x ∷ s) = let h : length (hex s) ≡ length s * 2 = length-hex s in omega arith
 
 pub octal-six : (m a b c d e f g : ℕ) → a ≡ 48 + m / 8 / 8 / 8 / 8 / 8 % 8 → b ≡ 48 + m / 8 / 8 / 8 / 8 % 8 → c ≡ 48 + m / 8 / 8 / 8 % 8 → d ≡ 48 + m / 8 / 8 % 8 → e ≡ 48 + m / 8 % 8 → f ≡ 48 + m % 8
     → a ∷ b ∷ c ∷ d ∷ e ∷ f ∷ g ∷ [] ≡ octal 6 m ++ (g ∷ [])
@@ -109,6 +105,10 @@ lines-none rs ps n i h = let q : n - i ≡ 0 = omega arith in rw q
 lines-more : (rs ps : List ℕ) (n i : ℕ) → i < n → linesFrom 20 rs ps (n - i) i ≡ lineAt 20 rs ps i ++ linesFrom 20 rs ps (n - (i + 1)) (i + 1)
 unfolding linesFrom
 lines-more rs ps n i h = let q : n - i ≡ suc (n - (i + 1)) = omega arith in rw q
+
+-- a size that is capped is a number of 64 bits
+pub size-small : (n s : ℕ) → s ≡ cap n → s ≤ largest
+size-small n s e = omega (arith, cap-small n)
 
 pub size-start : (rs ps : List ℕ) (n : ℕ) → cap (0 + length (linesFrom 20 rs ps (n - 0) 0)) ≡ cap (length (linesFrom 20 rs ps n 0))
 size-start rs ps n =
@@ -238,6 +238,6 @@ module _ (number value : ℕ) (carries : Bool) (d : List ℕ) (room : length (re
       let q : next ≡ 0 + length (refusedWord ++ ds) = omega (arith, length-append refusedWord ds) in
       e₃ ∙ (λ k. put (i₂ k) (q k) (tailOf carries value)) ∙ put-put d (refusedWord ++ ds) (tailOf carries value) 0 (omega arith)
 
-pub ruleset laws = (octal-six, head-put, line-head, line-room, line-next, line-put, plus-over, plus-fits, size-start, size-end, size-turn, cap-small, fill-start, fill-fits, fill-room, fill-left, fill-end, fill-more, text-short, text-fits, text-written)
+pub ruleset laws = (octal-six, head-put, line-head, line-room, line-next, line-put, size-small, size-start, size-end, size-turn, fill-start, fill-fits, fill-room, fill-left, fill-end, fill-more, text-short, text-fits, text-written)
 
 pub ruleset refused-laws = (refused-carried, refused-alone, tail-room, tail-carried, tail-slot, tail-alone, refused-word, refused-number, refused-tail, refused-put)

@@ -5,7 +5,8 @@ ghost use Prim.Native.Nat.{_+_, _%_, _≤_, _<_};
 ghost use lib.ListN.{length};
 ghost use Rattle.laws.specs.Put.{put};
 ghost use Rattle.lines.specs.Lines.{octal, headOf, lineAt, linesFrom, tailOf, refusedText};
-ghost use Rattle.lines.specs.Written.{cap, outcome, written};
+ghost use Rattle.sums.specs.Cap.{cap};
+ghost use Rattle.lines.specs.Written.{outcome, written};
 
 const NEWLINE: u8 = 10;
 
@@ -14,9 +15,6 @@ const LINE_SIZE: usize = 51;
 
 // The bytes of a line before the path.
 const HEAD_SIZE: usize = 50;
-
-// The largest number: where a size would be larger, it is this.
-const MOST: usize = 18446744073709551615;
 
 // The octal digit of the lowest three bits.
 fn octal_digit(x: u32) -> u8
@@ -85,14 +83,6 @@ fn put_line(records: &[u8], paths: &[u8], i: usize, out: &mut [u8], at: usize) -
     last + 1
 }
 
-// The sum, or the largest number where that does not fit.
-fn plus(a: usize, b: usize) -> usize
-    ensures { λ r. ⌜ r ≡ cap (a + b) ⌝ }
-{
-    let room = MOST - a;
-    if room < b { MOST } else { a + b }
-}
-
 // How long the lines of the first n records are.
 fn size_lines(records: &[u8], paths: &[u8], n: usize) -> usize
     ensures { λ r. ⌜ r ≡ cap (length (linesFrom 20 (now (records .entry)) (now (paths .entry)) n 0)) ⌝ }
@@ -102,7 +92,7 @@ fn size_lines(records: &[u8], paths: &[u8], n: usize) -> usize
     while i < n {
         let path = entry::path_of(records, paths, i);
         let line = LINE_SIZE + path.len();
-        size = plus(size, line);
+        size = sums::saturating_add(size, line);
         i += 1;
     }
     size

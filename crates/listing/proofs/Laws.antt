@@ -8,7 +8,8 @@ use lib.ListN.{length, drop, replicate}
 use lib.Seq.{paste}
 use borrow.Author.Tests.{lt-ltb, le-ltb, eq-eqb, ne-eqb}
 use Rattle.lines.specs.Lines.{linesFrom, refusedText}
-use Rattle.lines.specs.Written.{Outcome, outcome, written, copied, cap-fits, text-short, text-written}
+use Rattle.sums.specs.Cap.{cap-fits}
+use Rattle.lines.specs.Written.{Outcome, outcome, written, copied, text-short, text-written}
 use Rattle.file.specs.Answer.{numberOf, carriesOf, valueOf}
 use Rattle.file.specs.Read as read
 use Rattle.file.specs.declared.Answer.{Answer}

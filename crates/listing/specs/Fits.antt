@@ -50,6 +50,7 @@ use Rattle.file.specs.declared.Answer.{Answer}
 use Rattle.file.specs.declared.Answer.the-variants as answer
 use Rattle.lines.specs.Lines.{lineAt, linesFrom, refusedText}
 use Rattle.lines.specs.Written as lines
+use Rattle.sums.specs.Cap.{cap, cap-fits}
 use Rattle.lines.proofs.Laws.{line-length, digits-fit, refused-carried, refused-alone}
 use Rattle.wire.specs.Written.{digitsOf}
 use Rattle.listing.specs.Listed.{textOf, textOfOutcome, tooBig, listed}
@@ -267,8 +268,8 @@ module _ (s : List ℕ) (bytes : (i : ℕ) → getD s i 0 < 256) where
   unfolding lines.written
   listing-within r out out′ e =
       let n : length (listed idSize depthLimit s) ≤ listingRoom = every-listing-fits in
-      let q : r ≡ lines.cap (length (listed idSize depthLimit s)) = ap (λ (o : lines.Outcome). o .size) e in
-      omega (arith, lines.cap-fits (length (listed idSize depthLimit s)) (omega arith))
+      let q : r ≡ cap (length (listed idSize depthLimit s)) = ap (λ (o : lines.Outcome). o .size) e in
+      omega (arith, cap-fits (length (listed idSize depthLimit s)) (omega arith))
 
   -- and, where it is lent, puts the whole text
   pub listing-whole : (r : ℕ) (out out′ : List ℕ) → lines.outcome r out′ ≡ lines.written (listed idSize depthLimit s) out → listingRoom ≤ length out
@@ -277,6 +278,6 @@ module _ (s : List ℕ) (bytes : (i : ℕ) → getD s i 0 < 256) where
   listing-whole r out out′ e h =
       let text : List ℕ = listed idSize depthLimit s in
       let n : length text ≤ listingRoom = every-listing-fits in (
-        ap (λ (o : lines.Outcome). o .size) e ∙ lines.cap-fits (length text) (omega arith),
+        ap (λ (o : lines.Outcome). o .size) e ∙ cap-fits (length text) (omega arith),
         ap (λ (o : lines.Outcome). o .out) e ∙ ap (λ (t : Bool). pick t out (put out 0 text)) (le-ltb (length out) (length text) (omega arith)),
       )

@@ -30,7 +30,7 @@ use Rattle.measure.specs.declared.Left.the-variants.{Bytes, TooFew}
 use Rattle.measure.specs.declared.Measured.{Measured}
 use Rattle.measure.specs.declared.Measured.the-variants.{Entry, Short, Fault}
 use Rattle.measure.specs.Entry.{onExtended, extendedAt, headWith, headAt, HeadFits, wholeOf, paddedTo, onEnds, onNumber, onLeft, onHead, paddedAt, keptOf, suffixedAt, compressedAt, measureAt}
-use Rattle.measure.specs.Laws.{number-fits}
+use Rattle.measure.specs.Numbers.{number-fits}
 
 -- ---- the padding: for every fixed length and path length the entry is a multiple of 8 long, and the padding is 1 to 8
 pub record Padded (size len whole : ℕ) : Type 0 where

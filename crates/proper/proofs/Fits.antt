@@ -108,9 +108,13 @@ unfolding childCount
 count-cut ns p n j h = let z : n - j ≡ suc (n - (j + 1)) = omega arith in rw z
 
 module _ (ns : List ℕ) (p n count j : ℕ) (inv : Counting ns p n count j) where
-  pub counting-end : n ≤ j → count ≡ childCount ns p (n - 1) 1
+  pub counting-end : n ≤ j → n ≡ nodesIn ns → count ≡ childCount ns p (nodesIn ns - 1) 1
   unfolding childCount
-  counting-end h = let z : n - j ≡ 0 = omega arith in let y : childCount ns p (n - j) j ≡ 0 = rw z in omega (arith, inv .run)
+  counting-end h e =
+      let z : n - j ≡ 0 = omega arith in
+      let y : childCount ns p (n - j) j ≡ 0 = rw z in
+      let whole : count ≡ childCount ns p (n - 1) 1 = omega (arith, inv .run) in
+      whole ∙ ap (λ (k : ℕ). childCount ns p (k - 1) 1) e
 
   module _ (h : j < n) (q : ℕ) (e : q ≡ parentAt ns j) where
     pub counting-one : q ≡ p → Counting ns p n (count + 1) (j + 1)
@@ -128,9 +132,9 @@ module _ (ns nm : List ℕ) (i said count : ℕ) (es : said ≡ subtreesAt ns i)
   unfolding kidsFit
   kids-miscounted h = sym (rw (← es, ← ec, ne-eqb said count h))
 
-  pub kids-counted : said ≡ count → (t : Bool) → t ≡ siblingsDiffer nm ns i 1 (nodesIn ns) → t ≡ kidsFit ns nm i
+  pub kids-counted : said ≡ count → (t : Bool) (n : ℕ) → t ≡ siblingsDiffer nm ns i 1 n → n ≡ nodesIn ns → t ≡ kidsFit ns nm i
   unfolding kidsFit
-  kids-counted h t q = q ∙ sym (rw (← es, ← ec, eq-eqb said count h))
+  kids-counted h t n q e = q ∙ ap (λ (k : ℕ). siblingsDiffer nm ns i 1 k) e ∙ sym (rw (← es, ← ec, eq-eqb said count h))
 
 -- ---- all of them
 
@@ -149,8 +153,8 @@ module _ (p : ℕ → Bool) (n i : ℕ) (r : Bool) (inv : allIn p (n - i) i ≡ 
   pub all-not : i < n → (t : Bool) → t ≡ p i → t ≡ false → false ≡ r
   all-not h t e k = sym (ap (λ (b : Bool). pick b (allIn p (n - (i + 1)) (i + 1)) false) k) ∙ cut t h e
 
-pub all-start : (p : ℕ → Bool) (n : ℕ) → allIn p (n - 0) 0 ≡ allIn p n 0
-all-start p n = rw sub-zero
+pub all-start : (p : ℕ → Bool) (n m : ℕ) → n ≡ m → allIn p (n - 0) 0 ≡ allIn p m 0
+all-start p n m e = rw (sub-zero n, e)
 
 module _ (ns nm : List ℕ) where
   pub proper-empty : length ns < 72 → false ≡ isProper depthLimit ns nm

@@ -92,7 +92,7 @@ fn node_fits(nodes: &[u8], names: &[u8], i: usize) -> bool
 fn child_count(nodes: &[u8], p: usize) -> u64
     ensures { λ r. ⌜ r ≡ childCount (now (nodes .entry)) p (nodesIn (now (nodes .entry)) - 1) 1 ⌝ }
 {
-    let n = nodes.len() / node::NODE_SIZE;
+    let n = node::nodes_in(nodes);
     let mut count: u64 = 0;
     let mut j: usize = 1;
     while j < n {
@@ -111,7 +111,7 @@ fn child_count(nodes: &[u8], p: usize) -> u64
 fn table_kids_fit(nodes: &[u8], names: &[u8], i: usize) -> bool
     ensures { λ r. ⌜ r ≡ kidsFit (now (nodes .entry)) (now (names .entry)) i ⌝ }
 {
-    let n = nodes.len() / node::NODE_SIZE;
+    let n = node::nodes_in(nodes);
     let said = node::subtrees(nodes, i);
     let count = child_count(nodes, i);
     if said == count {
@@ -195,7 +195,7 @@ fn kids_fit(nodes: &[u8], names: &[u8], walk: bool, i: usize) -> bool
 fn nodes_fit(nodes: &[u8], names: &[u8]) -> bool
     ensures { λ r. ⌜ r ≡ nodesFit depthLimit (now (nodes .entry)) (now (names .entry)) ⌝ }
 {
-    let n = nodes.len() / node::NODE_SIZE;
+    let n = node::nodes_in(nodes);
     let mut i: usize = 0;
     while i < n {
         if node_fits(nodes, names, i) {
@@ -212,7 +212,7 @@ fn all_kids_fit(nodes: &[u8], names: &[u8]) -> bool
     ensures { λ r. ⌜ r ≡ allKidsFit (now (nodes .entry)) (now (names .entry)) ⌝ }
 {
     let walk = walk_order::in_walk_order(nodes);
-    let n = nodes.len() / node::NODE_SIZE;
+    let n = node::nodes_in(nodes);
     let mut i: usize = 0;
     while i < n {
         if kids_fit(nodes, names, walk, i) {

@@ -157,7 +157,7 @@ fn show_read(file: &[u8], records: &mut [u8], paths: &mut [u8], nodes: &mut [u8]
 }
 
 // The lesser of two.
-fn least(x: usize, y: usize) -> usize
+fn min(x: usize, y: usize) -> usize
     ensures { λ r. ⌜ r ≤ y ⌝ }
 {
     if x < y { x } else { y }
@@ -168,9 +168,9 @@ fn show_file(file: &[u8], r: usize, p: usize, n: usize) {
     let mut records = [LENT; RECORDS];
     let mut paths = [LENT; PATHS];
     let mut nodes = [LENT; NODES];
-    let rs = least(r, RECORDS);
-    let ps = least(p, PATHS);
-    let ns = least(n, NODES);
+    let rs = min(r, RECORDS);
+    let ps = min(p, PATHS);
+    let ns = min(n, NODES);
     show_read(file, &mut records[..rs], &mut paths[..ps], &mut nodes[..ns]);
 }
 

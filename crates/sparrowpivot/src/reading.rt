@@ -65,16 +65,6 @@ pub extern "C" fn sparrowpivot_read(
     file::number(a)
 }
 
-// Where the last 20 bytes of n begin; 0 where there are fewer.
-fn before_trailer(n: usize) -> usize
-    ensures { λ r. ⌜ r ≡ n - idSize ⌝ }
-{
-    if n < format::ID_SIZE {
-        return 0;
-    }
-    n - format::ID_SIZE
-}
-
 // Reads count entries of an index between its header and its trailer. 0: read, with the place behind the entries, the path bytes used and 1 if the index is sparse
 // as the first three values; else 01's number, and the entry's index as the first value. The other values are 0.
 #[no_mangle]
@@ -88,7 +78,7 @@ pub extern "C" fn sparrowpivot_entries(
 ) -> u32
     ensures { λ r. ⌜ told r (now (values .exit)) (now (records .exit) ∷ now (paths .exit) ∷ []) ≡ tellEntries (readEntries idSize (now (file .entry)) (fileAt (length (now (file .entry)) - idSize)) version count 0 (fileAt headerSize) begin (now (records .entry)) (now (paths .entry))) ⌝ }
 {
-    let end = before_trailer(file.len());
+    let end = sums::saturating_sub(file.len(), format::ID_SIZE);
     let before = Before {
         used: PathAt(0),
         first: true,

@@ -21,15 +21,11 @@ fn nodes_room() -> [u8; 7207]
     [0; 7207]
 }
 
-fn wide(x: u8) -> u64 {
-    x as u64
-}
-
 // Bytes in hexadecimal digits.
 fn show_hex(s: &[u8]) {
     let mut i: usize = 0;
     while i < s.len() {
-        io::print_hex(STDOUT_FILENO, wide(s[i]), 2);
+        io::write_all(STDOUT_FILENO, &show::hex_byte(s[i]));
         i += 1;
     }
 }

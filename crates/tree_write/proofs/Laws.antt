@@ -14,7 +14,7 @@ use Rattle.sums.specs.Cap.{largest, cap, cap-fits, cap-small, cap-le, cap-below
 use Rattle.wire.specs.Written.{digitsOf}
 use Rattle.format.specs.Format.{depthLimit, idSize}
 use Rattle.node.specs.Head.{minusOne}
-use Rattle.node.specs.Store.{countAt, subtreesAt, parentAt, idAt, nameAt}
+use Rattle.node.specs.Store.{nodesIn, countAt, subtreesAt, parentAt, idAt, nameAt}
 use Rattle.siblings.specs.Rising.{isBelow}
 use Rattle.siblings.specs.Rising as rising
 use Rattle.tree_write.specs.Order.{byIndex, before, false-true}
@@ -324,9 +324,9 @@ module _ (ns nm : List ℕ) (p last best j q : ℕ) (up : q ≡ parentAt ns j) w
       better-old x y = rw (← up, eq-eqb q p h, ← ea, x, ← eb, y)
 
 -- ---- the pass
-pub run-start : (ns nm : List ℕ) (p last : ℕ) → bestRun ns nm p last (length ns / 72 - 1) 1 0 ≡ nextKid ns nm p last
+pub run-start : (ns nm : List ℕ) (p last n : ℕ) → n ≡ nodesIn ns → bestRun ns nm p last (n - 1) 1 0 ≡ nextKid ns nm p last
 unfolding nextKid
-run-start ns nm p last = refl
+run-start ns nm p last n e = rw e
 
 module _ (ns nm : List ℕ) (p last n j best r : ℕ) (inv : bestRun ns nm p last (n - j) j best ≡ r) where
   pub run-end : n ≤ j → best ≡ r

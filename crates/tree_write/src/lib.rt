@@ -121,10 +121,10 @@ fn head_size(nodes: &[u8], names: &[u8], i: usize) -> usize
     let digits = count_size(count);
     let more = wire::decimal_size(subtrees);
     let id = id_size(nodes, i);
-    let named = sums::plus(name.len(), 3);
-    let counted = sums::plus(named, digits);
-    let numbered = sums::plus(counted, more);
-    sums::plus(numbered, id)
+    let named = sums::saturating_add(name.len(), 3);
+    let counted = sums::saturating_add(named, digits);
+    let numbered = sums::saturating_add(counted, more);
+    sums::saturating_add(numbered, id)
 }
 
 // Whether node i comes before node j: by name, and by index where the names are equal.
@@ -188,7 +188,7 @@ fn better_of(nodes: &[u8], names: &[u8], parent: usize, last: usize, best: usize
 fn next_kid(nodes: &[u8], names: &[u8], parent: usize, last: usize) -> usize
     ensures { λ r. ⌜ r ≡ nextKid (now (nodes .entry)) (now (names .entry)) parent last ⌝ }
 {
-    let n = nodes.len() / node::NODE_SIZE;
+    let n = node::nodes_in(nodes);
     let mut best: usize = 0;
     let mut j: usize = 1;
     while j < n {
@@ -257,7 +257,7 @@ fn node_size(nodes: &[u8], names: &[u8], walk: bool, me: usize, depth: usize) ->
             return size;
         }
         let one = node_size(nodes, names, walk, kid, below);
-        size = sums::plus(size, one);
+        size = sums::saturating_add(size, one);
         runs::step(nodes, names, me, used, &mut heads, kid);
         last = kid;
         left -= 1;

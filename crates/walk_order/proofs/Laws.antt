@@ -1,6 +1,6 @@
 -- Laws of the walk order's definitions, turned the way that the needs ask. Assumes nothing.
 use mathlib.Core.Bool.{Bool, true, false}
-use mathlib.Core.Path.{_≡_, refl, sym, ap, _∙_}
+use mathlib.Core.Path.{_≡_, sym, ap, _∙_}
 use mathlib.Core.List.{List}
 use Prim.Native.Nat.{ℕ, suc, _+_, _-_, _≤_, _<_}
 use native.Mathlib.Omega.{arith}
@@ -33,9 +33,9 @@ module _ (ns : List ℕ) (left i q : ℕ) (r : Bool) (inv : climbsTo ns left i q
 
 -- ---- the pass over the table
 
-pub walk-start : (ns : List ℕ) → walksFrom depthLimit ns (nodesIn ns - 1) 1 ≡ walks depthLimit ns
+pub walk-start : (ns : List ℕ) (n : ℕ) → n ≡ nodesIn ns → walksFrom depthLimit ns (n - 1) 1 ≡ walks depthLimit ns
 unfolding walks
-walk-start ns = refl
+walk-start ns n e = rw e
 
 module _ (ns : List ℕ) (n j : ℕ) (r : Bool) (inv : walksFrom depthLimit ns (n - j) j ≡ r) where
   pub walk-end : n ≤ j → true ≡ r
@@ -58,14 +58,14 @@ module _ (ns : List ℕ) (n j : ℕ) (r : Bool) (inv : walksFrom depthLimit ns (
 
 -- ---- the search
 
-module _ (ns : List ℕ) (p x : ℕ) where
-  pub child-past : nodesIn ns ≤ x → 0 ≡ nextChild ns p x
+module _ (ns : List ℕ) (p x n : ℕ) (e : n ≡ nodesIn ns) where
+  pub child-past : n ≤ x → 0 ≡ nextChild ns p x
   unfolding nextChild childFrom
   child-past h = let z : nodesIn ns - (x + 1) ≡ 0 = omega arith in sym (rw z)
 
-  pub child-start : childFrom ns p (nodesIn ns - (x + 1)) (x + 1) ≡ nextChild ns p x
+  pub child-start : childFrom ns p (n - (x + 1)) (x + 1) ≡ nextChild ns p x
   unfolding nextChild
-  child-start = refl
+  child-start = rw e
 
 module _ (ns : List ℕ) (p n j r : ℕ) (inv : childFrom ns p (n - j) j ≡ r) where
   pub child-end : n ≤ j → 0 ≡ r

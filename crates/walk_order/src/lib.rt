@@ -26,7 +26,7 @@ fn climbs_to(nodes: &[u8], from: usize, to: usize) -> bool
 pub fn in_walk_order(nodes: &[u8]) -> bool
     ensures { λ r. ⌜ r ≡ walks depthLimit (now (nodes .entry)) ⌝ }
 {
-    let n = nodes.len() / node::NODE_SIZE;
+    let n = node::nodes_in(nodes);
     let mut j: usize = 1;
     while j < n {
         let p = node::parent(nodes, j);
@@ -44,7 +44,7 @@ pub fn in_walk_order(nodes: &[u8]) -> bool
 pub fn next_child(nodes: &[u8], p: usize, x: usize) -> usize
     ensures { λ r. ⌜ r ≡ nextChild (now (nodes .entry)) p x ⌝ }
 {
-    let n = nodes.len() / node::NODE_SIZE;
+    let n = node::nodes_in(nodes);
     if n <= x {
         return 0;
     }

@@ -193,9 +193,9 @@ fn body_size(front: usize, writes: bool, tree: usize, sparse: bool) -> usize
 {
     let head = head_size(writes);
     let last = head_size(sparse);
-    let headed = sums::plus(front, head);
-    let treed = sums::plus(headed, tree);
-    sums::plus(treed, last)
+    let headed = sums::saturating_add(front, head);
+    let treed = sums::saturating_add(headed, tree);
+    sums::saturating_add(treed, last)
 }
 
 // Writes a table that was sized and whose tree may be written: refuses what is too large or does not fit, and fills the output.

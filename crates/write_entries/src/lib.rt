@@ -117,7 +117,7 @@ pub fn size_entries(records: &[u8], paths: &[u8]) -> Sized
         version = version_with(flags, version);
         count += kept_of(records, i);
         let one = record_size(records, paths, i);
-        size = sums::plus(size, one);
+        size = sums::saturating_add(size, one);
         i += 1;
     }
     Sized::Of {

@@ -11,14 +11,10 @@ use write::Options;
 // Names of the nodes, and their ids: "a" at 0, "b" at 1, a name with NUL from 19 to 22.
 const NAMES: [u8; 22] = *b"abcdefghijklmnopqrst\0x";
 
-fn wide(x: u8) -> u64 {
-    x as u64
-}
-
 fn show_hex(s: &[u8]) {
     let mut i: usize = 0;
     while i < s.len() {
-        io::print_hex(STDOUT_FILENO, wide(s[i]), 2);
+        io::write_all(STDOUT_FILENO, &show::hex_byte(s[i]));
         i += 1;
     }
 }

@@ -1,5 +1,5 @@
 -- `file::read_extensions` meets its contract. Assumes nothing.
-use Rattle.file.specs.Laws.{walks}
+use Rattle.file.proofs.Laws.{walks}
 use borrow.Author.Needs.{needs}
 use Rattle.file.proofs.read_extensions.Statement.{statement}
 use Rattle.file.proofs.read_extensions.Tie as tie

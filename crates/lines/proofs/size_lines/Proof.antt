@@ -1,5 +1,5 @@
 -- `lines::size_lines` meets its contract. The loop's invariant: the size so far and the lines that are left come to the whole. Assumes nothing.
-use Rattle.lines.specs.Written.{cap}
+use Rattle.sums.specs.Cap.{cap}
 use mathlib.Core.Path.{_≡_}
 use Prim.Native.Nat.{_+_, _-_, _≤_}
 use lib.ListN.{length}
@@ -24,8 +24,8 @@ path-of-requires c κs = search (laws, needs)
 add-line : tie.Need-add-line Inv-loop μ-loop
 add-line c = search (laws, needs)
 
-plus-requires : tie.Need-plus-requires Inv-loop μ-loop
-plus-requires c κs = search (laws, needs)
+saturating-add-requires : tie.Need-saturating-add-requires Inv-loop μ-loop
+saturating-add-requires c κs = search (laws, needs)
 
 add-i : tie.Need-add-i Inv-loop μ-loop
 add-i c = search (laws, needs)
@@ -48,7 +48,7 @@ size-lines-spec =
     loop-holds
     path-of-requires
     add-line
-    plus-requires
+    saturating-add-requires
     add-i
     loop-less
     loop-again

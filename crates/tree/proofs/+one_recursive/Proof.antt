@@ -1,6 +1,6 @@
 -- `tree::one_recursive` meets its contract. The remaining depth falls. The invariant: the children so far are in the order that is noted, and what is left of the subtrees gives the whole answer. Assumes nothing.
 use borrow.Author.Needs.{needs}
-use Rattle.tree.specs.Laws.{walks, so-far-next}
+use Rattle.tree.proofs.Laws.{walks, so-far-next}
 use mathlib.Core.Path.{_≡_}
 use lib.ListN.{length}
 use Prim.Native.Nat.{ℕ, _^_, _<_}

@@ -14,6 +14,9 @@ Inv-loop nodes n j₀ j = (1 ≤ j) × (walksFrom depthLimit nodes (n - j) j ≡
 abbrev μ-loop : tie.MeasureT-loop
 μ-loop nodes n j₀ j = n - j
 
+nodes-in-requires : tie.Need-nodes-in-requires Inv-loop μ-loop
+nodes-in-requires c κs = search (laws, needs)
+
 loop-holds : tie.Need-loop-holds Inv-loop μ-loop
 loop-holds c = search (laws, needs)
 
@@ -47,6 +50,7 @@ in-walk-order-spec =
     (tie.spec
     Inv-loop
     μ-loop
+    nodes-in-requires
     loop-holds
     parent-requires
     sub-before

@@ -8,7 +8,7 @@ use Rattle.write_entries.proofs.size_entries.Reads as reads
 use Rattle.write_entries.proofs.size_entries.Lts as lts
 use Rattle.entry.proofs.flags_at.Reads as flags-at-reads
 use Rattle.entry.proofs.records_in.Reads as records-in-reads
-use Rattle.sums.proofs.plus.Reads as plus-reads
+use Rattle.sums.proofs.saturating_add.Reads as saturating-add-reads
 use Rattle.write_entries.proofs.kept_of.Reads as kept-of-reads
 use Rattle.write_entries.proofs.record_fault.Reads as record-fault-reads
 use Rattle.write_entries.proofs.record_size.Reads as record-size-reads
@@ -47,8 +47,8 @@ add-count c = omega (arith, kept-small _ _ _ (c .kept-of .ensures))
 record-size-requires : tie.Need-record-size-requires Inv-loop μ-loop
 record-size-requires c κs = search (laws, needs)
 
-plus-requires : tie.Need-plus-requires Inv-loop μ-loop
-plus-requires c κs = search (laws, needs)
+saturating-add-requires : tie.Need-saturating-add-requires Inv-loop μ-loop
+saturating-add-requires c κs = search (laws, needs)
 
 add-i : tie.Need-add-i Inv-loop μ-loop
 add-i c = search (laws, needs)
@@ -77,7 +77,7 @@ size-entries-spec =
     kept-of-requires
     add-count
     record-size-requires
-    plus-requires
+    saturating-add-requires
     add-i
     loop-less
     loop-again

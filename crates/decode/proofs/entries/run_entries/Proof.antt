@@ -4,7 +4,7 @@ use mathlib.Core.Bool.{false}
 use native.Mathlib.Omega.{arith}
 use borrow.Author.Needs.{needs}
 use Rattle.format.specs.Format.{idSize}
-use Rattle.decode.specs.Laws.{State, run-size, laws}
+use Rattle.decode.proofs.Laws.{State, run-size, laws}
 use Rattle.decode.specs.Entries.{run}
 use Rattle.decode.proofs.entries.run_entries.Statement.{statement}
 use Rattle.decode.proofs.entries.run_entries.Tie as tie

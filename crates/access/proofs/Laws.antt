@@ -15,10 +15,9 @@ use Rattle.laws.specs.Pick.{pick}
 use Rattle.laws.specs.Tests.{Same, same, differs, same?, lt-or-ge, tri}
 use Rattle.laws.specs.Lists.{drop-next}
 use Rattle.laws.specs.Order.{below, compared, compared-lt, compared-gt, compared-eq, flip, compared-flip}
-use Rattle.wire.specs.BigEndian.{beAt, be-small}
-use Rattle.wire.specs.Laws.{be-join}
+use Rattle.wire.specs.BigEndian.{beAt, be-join, be-small}
 use Rattle.entry.specs.Record.{recordsIn, stageAt, liesInside, pathAt}
-use Rattle.access.specs.Order.{orderOf, stageOrder, thenBy, agreeing, Passed, EightsOf, differ-at, agree-to}
+use Rattle.access.specs.Order.{orderOf, stageOrder, thenBy, placed, agreeing, Passed, EightsOf, differ-at, agree-to}
 use Rattle.access.specs.Verify.{isLess, followsAt, verifyFrom, verifyAt}
 use Rattle.access.specs.Lookup.{probeAt, turn, halve, searchAt, lookupAt}
 use Rattle.access.specs.declared.order.Eights.{Eights}
@@ -300,6 +299,9 @@ module _ (o q : Order) where
   pub then-second : o ≡ Equal → q ≡ thenBy o q
   then-second e = sym (rw e)
 
+pub placed-is : (a b : List ℕ) (g h : ℕ) (by st o : Order) → by ≡ orderOf (compared a b) → st ≡ stageOrder g h → o ≡ thenBy by st → o ≡ placed a g b h
+placed-is a b g h by st o eby est eo = eo ∙ rw (eby, est)
+
 -- ---- the order check: what is left of it, from record i on, answers r
 
 module _ (rs ps : List ℕ) (i : ℕ) where
@@ -307,10 +309,10 @@ module _ (rs ps : List ℕ) (i : ℕ) where
   unfolding followsAt
   follows-first e = sym (rw (eq-eqb i 0 e))
 
-  module _ (e : i ≡ 0 → ⊥) (a b : List ℕ) (g h : ℕ) (by st o : Order) (ea : a ≡ pathAt rs ps (i - 1)) (eb : b ≡ pathAt rs ps i) (eby : by ≡ orderOf (compared a b)) (eg : g ≡ stageAt rs (i - 1)) (eh : h ≡ stageAt rs i) (est : st ≡ stageOrder g h) (eo : o ≡ thenBy by st) where
+  module _ (e : i ≡ 0 → ⊥) (a b : List ℕ) (g h : ℕ) (o : Order) (ea : a ≡ pathAt rs ps (i - 1)) (eb : b ≡ pathAt rs ps i) (eg : g ≡ stageAt rs (i - 1)) (eh : h ≡ stageAt rs i) (eo : o ≡ placed a g b h) where
     follows-by : followsAt rs ps i ≡ isLess o
     unfolding followsAt
-    follows-by = rw (ne-eqb i 0 e, ← ea, ← eb, ← eg, ← eh, ← eby, ← est, ← eo)
+    follows-by = rw (ne-eqb i 0 e, ← ea, ← eb, ← eg, ← eh, ← eo)
 
     pub follows-less : o ≡ Less → true ≡ followsAt rs ps i
     follows-less q = sym (follows-by ∙ ap isLess q)
@@ -354,9 +356,9 @@ module _ (rs ps key : List ℕ) (stage i : ℕ) (t : Bool) (et : t ≡ liesInsid
   unfolding probeAt
   probe-outside q = sym (rw (← et, q))
 
-  pub probe-is : t ≡ true → (a : List ℕ) (g : ℕ) (by st o : Order) → a ≡ pathAt rs ps i → g ≡ stageAt rs i → by ≡ orderOf (compared a key) → st ≡ stageOrder g stage → o ≡ thenBy by st → Is o ≡ probeAt rs ps key stage i
+  pub probe-is : t ≡ true → (a : List ℕ) (g : ℕ) (o : Order) → a ≡ pathAt rs ps i → g ≡ stageAt rs i → o ≡ placed a g key stage → Is o ≡ probeAt rs ps key stage i
   unfolding probeAt
-  probe-is q a g by st o ea eg eby est eo = sym (rw (← et, q, ← ea, ← eg, ← eby, ← est, ← eo))
+  probe-is q a g o ea eg eo = sym (rw (← et, q, ← ea, ← eg, ← eo))
 
 -- ---- halving: what is left of it answers r
 
@@ -408,7 +410,7 @@ module _ (rs ps key : List ℕ) (stage : ℕ) where
   unfolding lookupAt
   lookup-near r e h = e ∙ sym (rw (le-ltb 3 stage (omega arith)))
 
-pub ruleset orders = (agree-first, agree-second, agree-part, agree-more, eights-start, eights-done, eights-differ, room-first, room-second, agree-differ, agree-rest, from-equal, from-prefix, from-longer, from-less, from-greater, compare-rest, stage-below, stage-beyond, stage-same, then-less, then-greater, then-second)
+pub ruleset orders = (agree-first, agree-second, agree-part, agree-more, eights-start, eights-done, eights-differ, room-first, room-second, agree-differ, agree-rest, from-equal, from-prefix, from-longer, from-less, from-greater, compare-rest, stage-below, stage-beyond, stage-same, then-less, then-greater, then-second, placed-is)
 
 pub ruleset checks = (follows-first, follows-less, follows-equal, follows-greater, verify-start, verify-done, verify-outside, verify-not-after, verify-next)
 

@@ -1,12 +1,12 @@
 -- Laws of the measures in the directions that the code's proofs ask, each with the premises that a place of the code knows. Assumes nothing.
 use mathlib.Core.Path.{_≡_, refl, sym, _∙_}
 use mathlib.Core.Bool.{Bool, true, false}
-use mathlib.Core.List.{List, [], _∷_}
-use Prim.Native.Nat.{ℕ, zero, suc, _+_, _-_, _*_, _/_, _%_, _^_, _≤_, _<_}
+use mathlib.Core.List.{List}
+use Prim.Native.Nat.{ℕ, _+_, _-_, _*_, _/_, _%_, _^_, _≤_, _<_}
 use native.Mathlib.Omega.{arith}
 use lib.ListN.{length, getD, drop}
 use lib.Dec.{ltb, eqb}
-use borrow.Author.Tests.{lt-ltb, le-ltb, eq-eqb, ne-eqb, ltb-true, ltb-false}
+use borrow.Author.Tests.{lt-ltb, le-ltb, eq-eqb, ne-eqb, ltb-false}
 use Rattle.laws.specs.Pick.{pick}
 use Rattle.slices.specs.Bytes.{nulAt}
 use Rattle.slices.specs.Laws.{nul-bounds}
@@ -14,7 +14,7 @@ use Rattle.slices.specs.declared.Ends.{Ends}
 use Rattle.slices.specs.declared.Ends.the-variants.{With, Never}
 use Rattle.wire.specs.Places.{fileAt}
 use Rattle.wire.specs.BigEndian.{beAt}
-use Rattle.wire.specs.Groups.{groupsIn, numberAt}
+use Rattle.wire.specs.Groups.{numberAt}
 use Rattle.wire.specs.declared.Number.{Number}
 use Rattle.wire.specs.declared.Number.the-variants.{Is, Cut, Over}
 use Rattle.format.specs.Format.{fixedExtendedSize, fixedSize, flagsPlace, idSize}
@@ -27,6 +27,7 @@ use Rattle.measure.specs.declared.Left.{Left}
 use Rattle.measure.specs.declared.Left.the-variants.{Bytes, TooFew}
 use Rattle.measure.specs.declared.Measured.{Measured}
 use Rattle.measure.specs.declared.Measured.the-variants.{Entry, Short, Fault}
+use Rattle.measure.specs.Numbers.{groups-cut-fit}
 use Rattle.measure.specs.Entry.{onExtended, extendedAt, headWith, headAt, wholeOf, paddedTo, paddedAt, keptOf, suffixedAt, compressedAt, measureAt}
 
 -- ---- the bits after EXTENDED
@@ -130,62 +131,7 @@ nul-after s p end z n e q = nul-bounds s p end z (sym e ∙ q) .0
 pub nul-below : (s : List ℕ) (p end z : ℕ) (n : Ends) → n ≡ nulAt s p end → n ≡ With z → z < end
 nul-below s p end z n e q = nul-bounds s p end z (sym e ∙ q) .1
 
--- ---- numbers in groups: where one ends, and how large what is cut can be
-pub record NumberFits (i f a v e : ℕ) : Type 0 where
-  pub after : i < e
-  pub within : e ≤ i + f
-  pub least : a * 128 ≤ v
-  pub small : v < 2 ^ 64
-
-number-step : (f : ℕ) (l : List ℕ) (i a c v e : ℕ) (t : Bool) (k : ℕ) → a < 2 ^ 57 → k < 128 → ltb (a * 128 + k) (2 ^ 57 - 1) ≡ t → (a * 128 + k + 1 < 2 ^ 57 → groupsIn f l (i + 1) (a * 128 + k + 1) ≡ Is v e → NumberFits (i + 1) f (a * 128 + k + 1) v e)
-    → pick t (groupsIn f l (i + 1) (a * 128 + k + 1)) Over ≡ Is v e → NumberFits i (suc f) a v e
-number-step f l i a c v e true k h m w ih q =
-    let lt : a * 128 + k < 2 ^ 57 - 1 = ltb-true (a * 128 + k) (2 ^ 57 - 1) w in
-    let r = ih (omega arith) q in
-    record { after = omega (arith, r .after); within = omega (arith, r .within); least = omega (arith, r .least); small = r .small }
-number-step f l i a c v e false k h m w ih q = let z : _≡_ {A = ℕ} 0 1 = cc in absurd (omega arith)
-
-number-group : (f : ℕ) (l : List ℕ) (i a c v e : ℕ) (t : Bool) → a < 2 ^ 57 → (a * 128 + c % 128 + 1 < 2 ^ 57 → groupsIn f l (i + 1) (a * 128 + c % 128 + 1) ≡ Is v e → NumberFits (i + 1) f (a * 128 + c % 128 + 1) v e)
-    → pick t (Is (a * 128 + c % 128) (i + 1)) (pick (ltb (a * 128 + c % 128) (2 ^ 57 - 1)) (groupsIn f l (i + 1) (a * 128 + c % 128 + 1)) Over) ≡ Is v e → NumberFits i (suc f) a v e
-number-group f l i a c v e true h ih q =
-    let ev : a * 128 + c % 128 ≡ v = cc in
-    let ee : i + 1 ≡ e = cc in
-    record { after = omega arith; within = omega arith; least = omega arith; small = omega arith }
-number-group f l i a c v e false h ih q = number-step f l i a c v e (ltb (a * 128 + c % 128) (2 ^ 57 - 1)) (c % 128) h (omega arith) refl ih q
-
-pub groups-fit : (f : ℕ) (l : List ℕ) (i a v e : ℕ) → a < 2 ^ 57 → groupsIn f l i a ≡ Is v e → NumberFits i f a v e
-unfolding groupsIn
-groups-fit zero l i a v e h q = let w : _≡_ {A = ℕ} 0 1 = cc in absurd (omega arith)
-groups-fit (suc f) [] i a v e h q = let w : _≡_ {A = ℕ} 0 1 = cc in absurd (omega arith)
-groups-fit (suc f) (c ∷ l) i a v e h q = number-group f l i a c v e (ltb c 128) h (λ k r. groups-fit f l (i + 1) (a * 128 + c % 128 + 1) v e k r) q
-
-pub number-fits : (s : List ℕ) (i end v e : ℕ) → numberAt s i end ≡ Is v e → NumberFits i (end - i) 0 v e
-unfolding numberAt
-number-fits s i end v e q = groups-fit (end - i) (drop i s) i 0 v e (omega arith) q
-
-pub record CutFits (a b : ℕ) : Type 0 where
-  pub least : a ≤ b
-  pub small : b < 2 ^ 57
-
-cut-step : (f : ℕ) (l : List ℕ) (i a b : ℕ) (t : Bool) (k : ℕ) → a < 2 ^ 57 → ltb (a * 128 + k) (2 ^ 57 - 1) ≡ t → (a * 128 + k + 1 < 2 ^ 57 → groupsIn f l (i + 1) (a * 128 + k + 1) ≡ Cut b → CutFits (a * 128 + k + 1) b)
-    → pick t (groupsIn f l (i + 1) (a * 128 + k + 1)) Over ≡ Cut b → CutFits a b
-cut-step f l i a b true k h w ih q =
-    let lt : a * 128 + k < 2 ^ 57 - 1 = ltb-true (a * 128 + k) (2 ^ 57 - 1) w in
-    let r = ih (omega arith) q in
-    record { least = omega (arith, r .least); small = r .small }
-cut-step f l i a b false k h w ih q = let z : _≡_ {A = ℕ} 0 1 = cc in absurd (omega arith)
-
-cut-group : (f : ℕ) (l : List ℕ) (i a c b : ℕ) (t : Bool) → a < 2 ^ 57 → (a * 128 + c % 128 + 1 < 2 ^ 57 → groupsIn f l (i + 1) (a * 128 + c % 128 + 1) ≡ Cut b → CutFits (a * 128 + c % 128 + 1) b)
-    → pick t (Is (a * 128 + c % 128) (i + 1)) (pick (ltb (a * 128 + c % 128) (2 ^ 57 - 1)) (groupsIn f l (i + 1) (a * 128 + c % 128 + 1)) Over) ≡ Cut b → CutFits a b
-cut-group f l i a c b true h ih q = let z : _≡_ {A = ℕ} 0 1 = cc in absurd (omega arith)
-cut-group f l i a c b false h ih q = cut-step f l i a b (ltb (a * 128 + c % 128) (2 ^ 57 - 1)) (c % 128) h refl ih q
-
-pub groups-cut-fit : (f : ℕ) (l : List ℕ) (i a b : ℕ) → a < 2 ^ 57 → groupsIn f l i a ≡ Cut b → CutFits a b
-unfolding groupsIn
-groups-cut-fit zero l i a b h q = let w : a ≡ b = cc in record { least = omega arith; small = omega arith }
-groups-cut-fit (suc f) [] i a b h q = let w : a ≡ b = cc in record { least = omega arith; small = omega arith }
-groups-cut-fit (suc f) (c ∷ l) i a b h q = cut-group f l i a c b (ltb c 128) h (λ k r. groups-cut-fit f l (i + 1) (a * 128 + c % 128 + 1) b k r) q
-
+-- a number that is cut
 pub cut-small : (s : List ℕ) (i end b : ℕ) (n : Number) → n ≡ numberAt s i end → n ≡ Cut b → b * 128 < 2 ^ 64
 unfolding numberAt
 cut-small s i end b n e q = let r = groups-cut-fit (end - i) (drop i s) i 0 b (omega arith) (sym e ∙ q) in omega (arith, r .small)

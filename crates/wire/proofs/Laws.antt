@@ -3,7 +3,7 @@ use mathlib.Core.Path.{_≡_, refl, sym, ap, _∙_}
 use mathlib.Core.Bool.{true, false}
 use mathlib.Core.List.{List, [], _∷_, _++_, append-assoc, append-nil}
 use Prim.Native.Nat.{ℕ, zero, suc, _+_, _-_, _*_, _/_, _%_, _^_, _≤_, _<_}
-use native.Mathlib.Nat.{add-zero, add-assoc, pow-suc, pow-succ', div-div-eq-div-mul, le-trans, mul-le-mul-right, div-mul-le-self, div-lt-iff-lt-mul}
+use native.Mathlib.Nat.{add-zero, pow-succ', div-div-eq-div-mul, le-trans, mul-le-mul-right, div-mul-le-self, div-lt-iff-lt-mul}
 use native.Mathlib.Numerals.{add-one}
 use native.Mathlib.Omega.{arith}
 use lib.ListN.{length, getD, set, drop}
@@ -11,8 +11,10 @@ use lib.Seq.{paste, sets-eq}
 use borrow.Author.Tests.{lt-ltb, le-ltb, le-leb, lt-leb, eq-eqb, ne-eqb}
 use Rattle.laws.specs.Lists.{drop-next}
 use Rattle.laws.specs.Paste.{set-four, paste-then}
-use Rattle.wire.specs.BigEndian.{beAt, bytesOf, length-bytes}
-use Rattle.wire.specs.Groups.{groupsIn}
+use Rattle.laws.specs.Put.{put, put-put, length-put, set-put}
+use Rattle.wire.specs.BigEndian.{beAt, bytesOf, swapBytes32, swapBytes64, length-bytes, be-join}
+use Rattle.wire.specs.Groups.{groupsIn, groups-end}
+use Rattle.wire.specs.Written.{digitsOf, digits-one, digits-more, size-one, size-more}
 use Rattle.wire.specs.Digits.{isDigit, grown, onGrown, digitsIn, unsignedAt, plain, negated, signedAt}
 use Rattle.wire.specs.declared.Number.{Number}
 use Rattle.wire.specs.declared.Number.the-variants.{Is, Cut, Over}
@@ -23,17 +25,36 @@ use Rattle.wire.specs.declared.Grown.the-variants.{To, TooLarge}
 use Rattle.wire.specs.declared.Signed.{Signed}
 use Rattle.wire.specs.declared.Signed.the-variants.{Plain, Negative, NoNumber}
 
--- ---- big-endian
+-- ---- the bytes in the other order
 
--- two numbers side by side are one
-pub be-join : (w v : ℕ) (s : List ℕ) (i : ℕ) → beAt (w + v) s i ≡ beAt w s i * 256 ^ v + beAt v s (i + w)
-unfolding beAt
-be-join w zero s i = let e : w + 0 ≡ w = omega arith in rw e (omega arith)
-be-join w (suc v) s i =
-    let e : w + suc v ≡ suc (w + v) = omega arith in
-    let ih : beAt (w + v) s i ≡ beAt w s i * 256 ^ v + beAt v s (i + w) = be-join w v s i in
-    let q : i + w + v ≡ i + (w + v) = add-assoc i w v in
-    rw (e, pow-suc 256 v, q) (omega arith)
+-- four bytes, the upper first
+abbrev four : ℕ → ℕ → ℕ → ℕ → ℕ
+four a b c d = ((a * 256 + b) * 256 + c) * 256 + d
+
+swapped-four : (a b c d : ℕ) → a < 256 → b < 256 → c < 256 → d < 256 → swapBytes32 (four d c b a) ≡ four a b c d
+swapped-four a b c d ha hb hc hd =
+    let one : four d c b a / 256 ≡ (d * 256 + c) * 256 + b = omega arith in
+    let two : ((d * 256 + c) * 256 + b) / 256 ≡ d * 256 + c = omega arith in
+    let three : (d * 256 + c) / 256 ≡ d = omega arith in
+    let first : four d c b a % 256 ≡ a = omega arith in
+    let second : ((d * 256 + c) * 256 + b) % 256 ≡ b = omega arith in
+    let third : (d * 256 + c) % 256 ≡ c = omega arith in
+    rw (first, one, second, two, third, three)
+
+lower-half : (low high x : ℕ) → x ≡ high * 4294967296 + low → low < 4294967296 → x % 4294967296 ≡ low
+lower-half low high x e h = omega arith
+
+upper-half : (low high x : ℕ) → x ≡ high * 4294967296 + low → low < 4294967296 → x / 4294967296 ≡ high
+upper-half low high x e h = omega arith
+
+-- the lower half and the upper half of a number, each swapped and put in the other's place
+pub swapped-eight : (a b c d e f g h low high x r : ℕ) → low ≡ four d c b a → high ≡ four h g f e → x ≡ high * 4294967296 + low → low < 4294967296
+    → a < 256 → b < 256 → c < 256 → d < 256 → e < 256 → f < 256 → g < 256 → h < 256
+    → r ≡ swapBytes64 x → r ≡ four a b c d * 4294967296 + four e f g h
+swapped-eight a b c d e f g h low high x r el eh ex l ha hb hc hd he hf hg hh er =
+    er ∙ rw (lower-half low high x ex l, upper-half low high x ex l, el, eh, swapped-four a b c d ha hb hc hd, swapped-four e f g h he hf hg hh)
+
+-- ---- big-endian
 
 pub be16-is : (s : List ℕ) (i r : ℕ) → r ≡ getD s i 0 * 256 + getD s (i + 1) 0 → r ≡ beAt 2 s i
 unfolding beAt
@@ -43,8 +64,15 @@ pub be32-is : (s : List ℕ) (i r : ℕ) → r ≡ ((getD s i 0 * 256 + getD s (
 unfolding beAt
 be32-is s i r e = rw (add-zero i) (omega arith)
 
-pub be64-is : (s : List ℕ) (i high low : ℕ) → high ≡ beAt 4 s i → low ≡ beAt 4 s (i + 4) → high * 4294967296 + low ≡ beAt 8 s i
-be64-is s i high low e f = rw (e, f) (sym (be-join 4 4 s i))
+pub be64-is : (s : List ℕ) (i r : ℕ) → r ≡ four (getD s i 0) (getD s (i + 1) 0) (getD s (i + 2) 0) (getD s (i + 3) 0) * 4294967296 + four (getD s (i + 4) 0) (getD s (i + 5) 0) (getD s (i + 6) 0) (getD s (i + 7) 0) → r ≡ beAt 8 s i
+be64-is s i r e =
+    let high : four (getD s i 0) (getD s (i + 1) 0) (getD s (i + 2) 0) (getD s (i + 3) 0) ≡ beAt 4 s i = be32-is s i _ refl in
+    let low : four (getD s (i + 4) 0) (getD s (i + 5) 0) (getD s (i + 6) 0) (getD s (i + 7) 0) ≡ beAt 4 s (i + 4) =
+    let p : i + 4 + 1 ≡ i + 5 = omega arith in
+    let q : i + 4 + 2 ≡ i + 6 = omega arith in
+    let t : i + 4 + 3 ≡ i + 7 = omega arith in
+    be32-is s (i + 4) _ (rw (p, q, t)) in
+    e ∙ rw (high, low) (sym (be-join 4 4 s i))
 
 pub bytes-join : (w v x : ℕ) → bytesOf (w + v) x ≡ bytesOf w (x / 256 ^ v) ++ bytesOf v x
 unfolding bytesOf
@@ -96,8 +124,7 @@ module _ (s : List ℕ) (i end a : ℕ) (r : Number) (inv : groupsIn (end - i) (
     groups-left = omega arith
 
     pub groups-last : c < 128 → Is (a * 128 + c % 128) (i + 1) ≡ r
-    unfolding groupsIn
-    groups-last m = sym (rw (groups-left, group, lt-ltb c 128 m)) ∙ inv
+    groups-last m = sym (groups-end s i end a c same h k m) ∙ inv
 
     pub groups-more : 128 ≤ c → a * 128 + c % 128 ≤ 144115188075855870 → groupsIn (end - (i + 1)) (drop (i + 1) s) (i + 1) (a * 128 + c % 128 + 1) ≡ r
     unfolding groupsIn
@@ -231,6 +258,37 @@ module _ (base half : ℕ) (s : List ℕ) (i end : ℕ) where
       unfolding signedAt
       signed-none p e f = f ∙ sym (rw (lt-leb end i h, ne-eqb (getD s i 0) 43 n, ne-eqb (getD s i 0) 45 p, ← e))
 
+-- ---- digits that are written
+
+module _ (d : List ℕ) (i x : ℕ) (room : i + length (digitsOf 10 x) ≤ length d) where
+  pub put-digit : x < 10 → (c : ℕ) → c ≡ 48 + x → set d i c ≡ put d i (digitsOf 10 x)
+  put-digit h c e = rw (digits-one 10 x h, e) (set-put d i (48 + x) (omega (arith, size-one x h)))
+
+  pub put-digits : 10 ≤ x → (d₁ : List ℕ) → d₁ ≡ put d i (digitsOf 10 (x / 10)) → (n c : ℕ) → n ≡ i + length (digitsOf 10 (x / 10)) → c ≡ 48 + x % 10
+      → set d₁ n c ≡ put d i (digitsOf 10 x)
+  put-digits h d₁ e n c en ec =
+      let ds : List ℕ = digitsOf 10 (x / 10) in
+      let l : length (put d i ds) ≡ length d = length-put d ds i (omega (arith, size-more x h)) in
+      (λ k. set (e k) (en k) (ec k))
+      ∙ set-put (put d i ds) (i + length ds) (48 + x % 10) (omega (arith, size-more x h))
+      ∙ put-put d ds ((48 + x % 10) ∷ []) i (omega arith)
+      ∙ ap (λ (xs : List ℕ). put d i xs) (sym (digits-more 10 x (omega arith) h))
+
+  pub put-digit-slot : x < 10 → i < length d
+  put-digit-slot h = omega (arith, size-one x h)
+
+  pub put-digit-next : x < 10 → i + 1 ≡ i + length (digitsOf 10 x)
+  put-digit-next h = omega (arith, size-one x h)
+
+  pub put-digits-slot : 10 ≤ x → (d₁ : List ℕ) → d₁ ≡ put d i (digitsOf 10 (x / 10)) → (n : ℕ) → n ≡ i + length (digitsOf 10 (x / 10)) → n < length d₁
+  put-digits-slot h d₁ e n en = omega (arith, size-more x h, ap length e, length-put d (digitsOf 10 (x / 10)) i (omega (arith, size-more x h)))
+
+  pub put-digits-next : 10 ≤ x → (n : ℕ) → n ≡ i + length (digitsOf 10 (x / 10)) → n + 1 ≡ i + length (digitsOf 10 x)
+  put-digits-next h n en = omega (arith, size-more x h)
+
+  pub put-room : 10 ≤ x → i + length (digitsOf 10 (x / 10)) ≤ length d
+  put-room h = omega (arith, size-more x h)
+
 pub ruleset ends = (be16-is, be32-is, be64-is, put16-is, put32-is, put64-is)
 
 pub ruleset groups = (groups-cut, groups-last, groups-more, groups-over)
@@ -240,3 +298,5 @@ pub ruleset grows = (grow-over, grow-large, grow-to)
 pub ruleset digits = (digits-end, digits-under, digits-over, digits-large, digits-next, unsigned-past, unsigned-under, unsigned-over, unsigned-run)
 
 pub ruleset signs = (plain-value, negated-zero, negated-value, signed-past, signed-plus, signed-minus, signed-none)
+
+pub ruleset written = (put-digit, put-digit-slot, put-digit-next, put-digits, put-digits-slot, put-digits-next, put-room)

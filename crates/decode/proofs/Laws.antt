@@ -29,6 +29,7 @@ use Rattle.decode.specs.declared.entries.Extensions.{Extensions}
 use Rattle.decode.specs.declared.entries.Extensions.the-variants.{From, NotTold}
 use Rattle.decode.specs.declared.entries.Before.{Before}
 use Rattle.decode.specs.Bounds.{blockSize, minEntrySize, maxEntries}
+use Rattle.decode.specs.Stores.{least-left}
 use Rattle.decode.specs.Entries.{pathOf, marked, Room, Outcome, outcome, run, least, readEntries}
 
 -- ---- the header
@@ -102,10 +103,6 @@ most-is size id v b m x e f = rw (e, f)
 pub least-right : (a b : ℕ) → b < a → b ≡ least a b
 unfolding least
 least-right a b h = sym (rw (lt-ltb b a h))
-
-pub least-left : (a b : ℕ) → a ≤ b → a ≡ least a b
-unfolding least
-least-left a b h = sym (rw (le-ltb b a h))
 
 pub least-small : (a b r : ℕ) → r ≡ least a b → r ≤ b
 unfolding least
