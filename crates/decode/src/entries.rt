@@ -3,7 +3,8 @@
 ghost use mathlib.Core.Path.{_≡_};
 ghost use Prim.Native.Nat.{_+_, _-_, _*_, _≤_};
 ghost use lib.ListN.{length};
-ghost use Rattle.format.specs.Format.{depthLimit, idSize};
+ghost use Rattle.format.specs.Format.{idSize};
+ghost use Rattle.entry.specs.Layout.{idRoom};
 ghost use Rattle.decode.specs.Bounds.{blockSize, minEntrySize, maxEntries};
 ghost use Rattle.decode.specs.Entries.{RoomFor, withRecord, withPath, marked, least, outcome, runOf, readEntries};
 use measure::Measured;
@@ -34,7 +35,7 @@ fn entries_block_size_in_bytes(size: usize, extensions: Extensions, id: usize) -
 
 // The least that an entry takes: the fixed part to a multiple of 8, or in version 4 with a strip of one byte and a NUL.
 fn min_entry_size_in_bytes(version: u32, id: usize) -> usize
-    requires { ⌜ id ≤ depthLimit ⌝ }
+    requires { ⌜ id ≤ idRoom ⌝ }
     ensures { λ r. ⌜ r ≡ minEntrySize version id ⌝ }
 {
     let fixed = SANS_ID + id;

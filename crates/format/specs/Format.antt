@@ -11,15 +11,15 @@ abbrev pub headerSize : ℕ
 headerSize = 12
 
 -- an entry's part before its flags: ten 32-bit fields and the id
-abbrev pub flagsPlace : ℕ
-flagsPlace = 40 + idSize
+abbrev pub fieldsSize : ℕ
+fieldsSize = 40 + idSize
 
 -- its part before its path, without and with extended flags
 abbrev pub fixedSize : ℕ
-fixedSize = flagsPlace + 2
+fixedSize = fieldsSize + 2
 
 abbrev pub fixedExtendedSize : ℕ
-fixedExtendedSize = flagsPlace + 4
+fixedExtendedSize = fieldsSize + 4
 
 -- a length field of this value says that the path runs to the first NUL
 abbrev pub longPath : ℕ

@@ -17,7 +17,7 @@ use Rattle.wire.specs.BigEndian.{beAt}
 use Rattle.wire.specs.Groups.{numberAt}
 use Rattle.wire.specs.declared.Number.{Number}
 use Rattle.wire.specs.declared.Number.the-variants.{Is, Cut, Over}
-use Rattle.format.specs.Format.{fixedExtendedSize, fixedSize, flagsPlace, idSize}
+use Rattle.format.specs.Format.{fixedExtendedSize, fixedSize, fieldsSize, idSize}
 use Rattle.entry.specs.Flags.{bit, extended, toMemory, extendedToMemory}
 use Rattle.entry.specs.declared.flags.Extended.{Extended}
 use Rattle.entry.specs.declared.flags.Extended.the-variants.{Kept, Unknown}
@@ -85,7 +85,7 @@ module _ (s : List ℕ) (i end : ℕ) where
       unfolding headAt
       head-small h = sym (rw (le-ltb (length s) end a, le-ltb end i b, lt-ltb (end - i) fixedSize h))
 
-      module _ (c : fixedSize ≤ end - i) (bits : ℕ) (e : bits ≡ beAt 2 s (i + flagsPlace)) where
+      module _ (c : fixedSize ≤ end - i) (bits : ℕ) (e : bits ≡ beAt 2 s (i + fieldsSize)) where
         head-bits : headAt idSize s i end ≡ headWith idSize s i end bits
         unfolding headAt
         head-bits = rw (le-ltb (length s) end a, le-ltb end i b, le-ltb (end - i) fixedSize c, e)

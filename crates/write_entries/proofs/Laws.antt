@@ -14,7 +14,7 @@ use Rattle.laws.specs.Paste.{paste-take, paste-then}
 use Rattle.laws.specs.Put.{put, put-none, put-front, put-put, length-put, paste-put}
 use Rattle.wire.specs.BigEndian.{bytesOf, length-bytes}
 use Rattle.sums.specs.Cap.{cap}
-use Rattle.format.specs.Format.{fixedExtendedSize, fixedSize, flagsPlace, idSize}
+use Rattle.format.specs.Format.{fixedExtendedSize, fixedSize, fieldsSize, idSize}
 use Rattle.entry.specs.Flags.{bit, extended, removed, toStorage, extendedToStorage}
 use Rattle.entry.specs.Record.{recordsIn, flagsAt, liesInside, pathAt}
 use Rattle.write_entries.specs.declared.Sized.{Sized}
@@ -201,19 +201,19 @@ module _ (rs : List ℕ) (i flags len : ℕ) (low : i < recordsIn rs) where
   length-wide : length ((front ++ word) ++ more) ≡ fixedExtendedSize
   length-wide = omega (arith, length-append (front ++ word) more, length-append front word, length-front idSize rs i (omega arith) low, length-bytes 2 (toStorage flags + stated len), length-bytes 2 (extendedToStorage flags))
 
-  pub head-is : (d d₁ d₂ d₃ : List ℕ) (w s e : ℕ) → d ≡ replicate fixedExtendedSize 0 → d₁ ≡ paste d 0 (drop (i * 96) rs) flagsPlace → d₂ ≡ paste d₁ flagsPlace (bytesOf 2 (w + s)) 2 → d₃ ≡ paste d₂ fixedSize (bytesOf 2 e) 2
+  pub head-is : (d d₁ d₂ d₃ : List ℕ) (w s e : ℕ) → d ≡ replicate fixedExtendedSize 0 → d₁ ≡ paste d 0 (drop (i * 96) rs) fieldsSize → d₂ ≡ paste d₁ fieldsSize (bytesOf 2 (w + s)) 2 → d₃ ≡ paste d₂ fixedSize (bytesOf 2 e) 2
       → w ≡ toStorage flags → s ≡ stated len → e ≡ extendedToStorage flags → d₃ ≡ (front ++ word) ++ more
   unfolding frontAt
   head-is d d₁ d₂ d₃ w s e z e₁ e₂ e₃ ew es ee =
       let l : length d ≡ fixedExtendedSize = ap length z ∙ length-replicate {A = ℕ} fixedExtendedSize 0 in
-      let lf : length front ≡ flagsPlace = length-front idSize rs i (omega arith) low in
+      let lf : length front ≡ fieldsSize = length-front idSize rs i (omega arith) low in
       let lw : length word ≡ 2 = length-bytes 2 (toStorage flags + stated len) in
       let lm : length more ≡ 2 = length-bytes 2 (extendedToStorage flags) in
       let lfw : length (front ++ word) ≡ fixedSize = omega (arith, length-append front word) in
-      let q₁ : d₁ ≡ paste d 0 front flagsPlace = e₁ ∙ paste-take d 0 (drop (i * 96) rs) flagsPlace in
-      let q₂ : d₂ ≡ paste d₁ flagsPlace word 2 = e₂ ∙ (λ j. paste d₁ flagsPlace (bytesOf 2 (ew j + es j)) 2) in
+      let q₁ : d₁ ≡ paste d 0 front fieldsSize = e₁ ∙ paste-take d 0 (drop (i * 96) rs) fieldsSize in
+      let q₂ : d₂ ≡ paste d₁ fieldsSize word 2 = e₂ ∙ (λ j. paste d₁ fieldsSize (bytesOf 2 (ew j + es j)) 2) in
       let q₃ : d₃ ≡ paste d₂ fixedSize more 2 = e₃ ∙ (λ j. paste d₂ fixedSize (bytesOf 2 (ee j)) 2) in
-      let a : d₂ ≡ paste d 0 (front ++ word) fixedSize = paste-then d d₁ d₂ 0 flagsPlace front word flagsPlace 2 fixedSize q₁ q₂ refl refl lf (omega arith) (omega arith) in
+      let a : d₂ ≡ paste d 0 (front ++ word) fixedSize = paste-then d d₁ d₂ 0 fieldsSize front word fieldsSize 2 fixedSize q₁ q₂ refl refl lf (omega arith) (omega arith) in
       let b : d₃ ≡ paste d 0 ((front ++ word) ++ more) fixedExtendedSize = paste-then d d₂ d₃ 0 fixedSize (front ++ word) more fixedSize 2 fixedExtendedSize a q₃ refl refl lfw (omega arith) (omega arith) in
       b ∙ (λ j. take-all fixedExtendedSize ((front ++ word) ++ more) (omega (arith, length-wide)) j ++ drop-of-length-le d {i = fixedExtendedSize} (omega arith) j) ∙ append-nil ((front ++ word) ++ more)
 
