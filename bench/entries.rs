@@ -1,13 +1,10 @@
 // Measures the proved reader of entries, as the static library exports it. `bench/entries` builds and runs this beside the oracle.
 //   entries v4 IN OUT         the entries of an index of version 2 again as version 4, without extensions
 //   entries read FILE ROUNDS  the best and the median time of a read, in ns an entry
+#[path = "../host/src/declarations.rs"]
+mod declarations;
+use declarations::*;
 use std::time::Instant;
-
-#[link(name = "sparrowpivot", kind = "static")]
-extern "C" {
-    fn sparrowpivot_sha1(bytes: *const u8, count: usize, out: *mut u8);
-    fn sparrowpivot_entries(file: *const u8, n: usize, version: u32, count: usize, records: *mut u8, nr: usize, paths: *mut u8, np: usize, values: *mut u64) -> u32;
-}
 
 fn word(s: &[u8], at: usize) -> usize {
     u32::from_be_bytes(s[at..at + 4].try_into().unwrap()) as usize
@@ -36,8 +33,8 @@ fn as_v4(s: &[u8]) -> Vec<u8> {
         at += (62 + len + 8) / 8 * 8;
         prev = path;
     }
-    let mut trailer = [0; 20];
-    unsafe { sparrowpivot_sha1(out.as_ptr(), out.len(), trailer.as_mut_ptr()) };
+    let mut trailer = [0; ID_SIZE];
+    unsafe { sparrowpivot_sha1(out.as_ptr(), out.len(), &mut trailer) };
     out.extend(trailer);
     out
 }
@@ -50,14 +47,31 @@ fn main() {
         return;
     }
     let (version, n) = (word(&s, 4) as u32, word(&s, 8));
-    let (mut records, mut paths, mut values) = (vec![1u8; n * 96], vec![1u8; n * 64], [0u64; 8]);
+    let (mut records, mut paths, mut values) = (vec![1u8; n * RECORD_SIZE], vec![1u8; n * 64], [0; VALUES]);
     let mut times = Vec::new();
     for _ in 0..a[3].parse::<usize>().unwrap() {
         let t = Instant::now();
-        let r = unsafe { sparrowpivot_entries(s.as_ptr(), s.len(), version, n, records.as_mut_ptr(), records.len(), paths.as_mut_ptr(), paths.len(), values.as_mut_ptr()) };
+        let r = unsafe {
+            sparrowpivot_entries(
+                s.as_ptr(),
+                s.len(),
+                version,
+                n,
+                records.as_mut_ptr(),
+                records.len(),
+                paths.as_mut_ptr(),
+                paths.len(),
+                &mut values,
+            )
+        };
         times.push(t.elapsed().as_nanos() as f64 / n as f64);
         assert_eq!((r, values[0] <= s.len() as u64 - 20), (0, true));
     }
     times.sort_by(f64::total_cmp);
-    println!("{:44} median {:.2} ns/entry   best {:.2} ns/entry", "this reader (stores lent, not cleared)", times[times.len() / 2], times[0]);
+    println!(
+        "{:44} median {:.2} ns/entry   best {:.2} ns/entry",
+        "this reader (stores lent, not cleared)",
+        times[times.len() / 2],
+        times[0]
+    );
 }

@@ -3,14 +3,10 @@
 //   lookup time FILE ROUNDS   the best time of as many lookups as the index has entries, scattered and in order, in ns a lookup
 use std::cmp::Ordering;
 mod clock;
+#[path = "../host/src/declarations.rs"]
+mod declarations;
 use clock::seconds;
-
-#[link(name = "sparrowpivot", kind = "static")]
-extern "C" {
-    fn sparrowpivot_read(file: *const u8, n: usize, records: *mut u8, nr: usize, paths: *mut u8, np: usize, nodes: *mut u8, nn: usize, values: *mut u64) -> u32;
-    fn sparrowpivot_record(records: *const u8, nr: usize, paths: *const u8, np: usize, i: usize, values: *mut u64) -> u32;
-    fn sparrowpivot_lookup(records: *const u8, nr: usize, paths: *const u8, np: usize, key: *const u8, nk: usize, stage: u32, values: *mut u64) -> u32;
-}
+use declarations::*;
 
 /// As large as the Rust's own entry: 80 bytes, where a record of ours has 96.
 struct Entry {
@@ -59,14 +55,33 @@ fn main() {
     }
     let file = std::fs::read(&a[2]).unwrap();
     let n = u32::from_be_bytes(file[8..12].try_into().unwrap()) as usize;
-    let (mut records, mut paths, mut nodes, mut v) = (vec![0u8; n * 96], vec![0u8; file.len()], vec![0u8; 72 * 2000], [0u64; 8]);
-    let r = unsafe { sparrowpivot_read(file.as_ptr(), file.len(), records.as_mut_ptr(), records.len(), paths.as_mut_ptr(), paths.len(), nodes.as_mut_ptr(), nodes.len(), v.as_mut_ptr()) };
+    let (mut records, mut paths, mut nodes, mut v) =
+        (vec![0u8; n * RECORD_SIZE], vec![0u8; file.len()], vec![0u8; 2000 * NODE_SIZE], [0; VALUES]);
+    let r = unsafe {
+        sparrowpivot_read(
+            file.as_ptr(),
+            file.len(),
+            records.as_mut_ptr(),
+            records.len(),
+            paths.as_mut_ptr(),
+            paths.len(),
+            nodes.as_mut_ptr(),
+            nodes.len(),
+            &mut v,
+        )
+    };
     assert_eq!((r, v[3] as usize), (0, n));
     paths.truncate(v[4] as usize);
     let table: Vec<Entry> = (0..n)
         .map(|i| {
-            unsafe { sparrowpivot_record(records.as_ptr(), records.len(), paths.as_ptr(), paths.len(), i, v.as_mut_ptr()) };
-            Entry { _stat: [0; 9], _id: [0; 20], flags: v[1] as u32, _mode: v[0] as u32, path: v[3] as usize..v[4] as usize }
+            unsafe { sparrowpivot_record(records.as_ptr(), records.len(), paths.as_ptr(), paths.len(), i, &mut v) };
+            Entry {
+                _stat: [0; 9],
+                _id: [0; 20],
+                flags: v[1] as u32,
+                _mode: v[0] as u32,
+                path: v[3] as usize..v[4] as usize,
+            }
         })
         .collect();
     // the same records at a multiple of 64 bytes: a record's start and end of its path then lie in one cache line
@@ -76,7 +91,8 @@ fn main() {
     aligned.copy_from_slice(&records);
     // the keys are copies, as the oracle's are
     let keys: Vec<Vec<u8>> = table.iter().map(|e| paths[e.path.clone()].to_vec()).collect();
-    let orders: [(&str, Vec<usize>); 2] = [("scattered", (0..n).map(|i| i * 7919 % n).collect()), ("in order", (0..n).collect())];
+    let orders: [(&str, Vec<usize>); 2] =
+        [("scattered", (0..n).map(|i| i * 7919 % n).collect()), ("in order", (0..n).collect())];
     for (what, order) in &orders {
         let (mut ours, mut ours_aligned, mut rust) = (f64::MAX, f64::MAX, f64::MAX);
         for _ in 0..a[3].parse::<usize>().unwrap() {
@@ -84,7 +100,18 @@ fn main() {
                 let t = seconds(|| {
                     for &i in order {
                         let k = &keys[i];
-                        let r = unsafe { sparrowpivot_lookup(records.as_ptr(), records.len(), paths.as_ptr(), paths.len(), k.as_ptr(), k.len(), 0, v.as_mut_ptr()) };
+                        let r = unsafe {
+                            sparrowpivot_lookup(
+                                records.as_ptr(),
+                                records.len(),
+                                paths.as_ptr(),
+                                paths.len(),
+                                k.as_ptr(),
+                                k.len(),
+                                0,
+                                &mut v,
+                            )
+                        };
                         assert!(r == 0 && v[0] == 1 && v[1] == i as u64);
                     }
                 });

@@ -2,12 +2,10 @@
 // loop and in four. All three are checked against each other first, at every length below 400, and run alternately, each in short runs of which the best
 // counts, so that other work of the machine disturbs little. `bench/sha1` builds and runs this.
 mod clock;
+#[path = "../host/src/declarations.rs"]
+mod declarations;
 use clock::seconds;
-
-#[link(name = "sparrowpivot", kind = "static")]
-extern "C" {
-    fn sparrowpivot_sha1(bytes: *const u8, count: usize, out: *mut u8);
-}
+use declarations::*;
 
 fn words(m: &[u8]) -> [u32; 80] {
     let mut w = [0u32; 80];
@@ -87,7 +85,7 @@ fn rust(s: &[u8], block: fn(&mut [u32; 5], &[u8])) -> [u8; 20] {
 
 fn proved(s: &[u8]) -> [u8; 20] {
     let mut out = [0u8; 20];
-    unsafe { sparrowpivot_sha1(s.as_ptr(), s.len(), out.as_mut_ptr()) };
+    unsafe { sparrowpivot_sha1(s.as_ptr(), s.len(), &mut out) };
     out
 }
 
@@ -119,9 +117,18 @@ fn main() {
         }
     }
     for (i, (name, _)) in all.iter().enumerate() {
-        println!("{name}: {:.0} MB/s; a message of 40 bytes: {:.0} ns", data.len() as f64 / best[i][0] / 1e6, best[i][1] * 1e5);
+        println!(
+            "{name}: {:.0} MB/s; a message of 40 bytes: {:.0} ns",
+            data.len() as f64 / best[i][0] / 1e6,
+            best[i][1] * 1e5
+        );
     }
     for i in 1..3 {
-        println!("speed of the proved digest to {}: {:.2}; at 40 bytes: {:.2}", all[i].0, best[i][0] / best[0][0], best[i][1] / best[0][1]);
+        println!(
+            "speed of the proved digest to {}: {:.2}; at 40 bytes: {:.2}",
+            all[i].0,
+            best[i][0] / best[0][0],
+            best[i][1] / best[0][1]
+        );
     }
 }

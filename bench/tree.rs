@@ -23,7 +23,9 @@ fn leaves(names: &[String]) -> Vec<u8> {
 }
 
 fn main() {
-    let level = |k: usize, name: &str, below: &[Vec<u8>]| (0..k).map(|i| node(&format!("{name}{i:02}"), below)).collect::<Vec<_>>();
+    let level = |k: usize, name: &str, below: &[Vec<u8>]| {
+        (0..k).map(|i| node(&format!("{name}{i:02}"), below)).collect::<Vec<_>>()
+    };
     let spread = node("", &level(20, "a", &level(20, "b", &level(49, "c", &[]))));
     let rising: Vec<String> = (0..20000).map(|i| format!("folder{i:05}")).collect();
     let mut shorter: Vec<String> = (0..20000).map(|i| format!("d{i}")).collect();
@@ -39,8 +41,10 @@ fn main() {
         let mut nodes = vec![0u8; 72 * 21000];
         let (mut ours, mut rust, mut used) = (f64::MAX, f64::MAX, 0);
         for _ in 0..rounds {
-            ours = ours.min(seconds(|| used = unsafe { tree_bench(body.as_ptr(), body.len(), 0, body.len(), nodes.as_mut_ptr(), nodes.len()) }));
-            rust = rust.min(seconds(|| assert!(gix_index::init::tree_decode(&body).is_some())));
+            ours = ours.min(seconds(|| {
+                used = unsafe { tree_bench(body.as_ptr(), body.len(), 0, body.len(), nodes.as_mut_ptr(), nodes.len()) }
+            }));
+            rust = rust.min(seconds(|| assert!(gix_index::init::tree_decode(&body, gix_hash::Kind::Sha1).is_some())));
         }
         assert!(used > 20000);
         println!("{what}: {:.2} ms, {:.2} of the Rust", ours * 1e3, ours / rust);

@@ -5,18 +5,11 @@
 // by byte.
 //   write FILE ROUNDS     FILE: an index of version 2 without TREE
 mod clock;
+#[path = "../host/src/declarations.rs"]
+mod declarations;
 use clock::seconds;
+use declarations::*;
 use gix_index::{decode, init, write, State};
-
-#[link(name = "sparrowpivot", kind = "static")]
-extern "C" {
-    fn sparrowpivot_read(file: *const u8, n: usize, records: *mut u8, nr: usize, paths: *mut u8, np: usize, nodes: *mut u8, nn: usize, values: *mut u64) -> u32;
-    fn sparrowpivot_write(records: *const u8, nr: usize, paths: *const u8, np: usize, nodes: *const u8, nn: usize, names: *const u8, nm: usize, options: u32, out: *mut u8, no: usize, values: *mut u64) -> u32;
-}
-
-const TREE_GIVEN: u32 = 1;
-const TREE_ASKED: u32 = 2;
-const UNHASHED: u32 = 16;
 
 fn node(name: &str, subtrees: &[Vec<u8>]) -> Vec<u8> {
     let head = format!("{name}\0{} {}\n", 3 + subtrees.len(), subtrees.len());
@@ -25,7 +18,9 @@ fn node(name: &str, subtrees: &[Vec<u8>]) -> Vec<u8> {
 
 /// A tree of 40 folders with 100 each, in byte order.
 fn tree() -> Vec<u8> {
-    let level = |k: usize, name: &str, below: &[Vec<u8>]| (0..k).map(|i| node(&format!("{name}-{i:03}"), below)).collect::<Vec<_>>();
+    let level = |k: usize, name: &str, below: &[Vec<u8>]| {
+        (0..k).map(|i| node(&format!("{name}-{i:03}"), below)).collect::<Vec<_>>()
+    };
     node("", &level(40, "module", &level(100, "component", &[])))
 }
 
@@ -43,20 +38,48 @@ struct Table {
 }
 
 fn table(file: Vec<u8>) -> Table {
-    let (mut records, mut paths, mut nodes, mut values) = (vec![0; file.len() * 2], vec![0; file.len()], vec![0; 72 * 5000], [0u64; 8]);
-    let no = unsafe { sparrowpivot_read(file.as_ptr(), file.len(), records.as_mut_ptr(), records.len(), paths.as_mut_ptr(), paths.len(), nodes.as_mut_ptr(), nodes.len(), values.as_mut_ptr()) };
+    let (mut records, mut paths, mut nodes, mut values) =
+        (vec![0; file.len() * 2], vec![0; file.len()], vec![0; 5000 * NODE_SIZE], [0; VALUES]);
+    let no = unsafe {
+        sparrowpivot_read(
+            file.as_ptr(),
+            file.len(),
+            records.as_mut_ptr(),
+            records.len(),
+            paths.as_mut_ptr(),
+            paths.len(),
+            nodes.as_mut_ptr(),
+            nodes.len(),
+            &mut values,
+        )
+    };
     assert_eq!(no, 0);
-    records.truncate(values[3] as usize * 96);
+    records.truncate(values[3] as usize * RECORD_SIZE);
     paths.truncate(values[4] as usize);
-    nodes.truncate(values[5] as usize * 72);
+    nodes.truncate(values[5] as usize * NODE_SIZE);
     Table { records, paths, nodes, file }
 }
 
 impl Table {
     fn write(&self, options: u32, out: &mut [u8]) -> usize {
-        let mut values = [0u64; 8];
+        let mut values = [0; VALUES];
         let (r, p, n, f) = (&self.records, &self.paths, &self.nodes, &self.file);
-        let no = unsafe { sparrowpivot_write(r.as_ptr(), r.len(), p.as_ptr(), p.len(), n.as_ptr(), n.len(), f.as_ptr(), f.len(), options, out.as_mut_ptr(), out.len(), values.as_mut_ptr()) };
+        let no = unsafe {
+            sparrowpivot_write(
+                r.as_ptr(),
+                r.len(),
+                p.as_ptr(),
+                p.len(),
+                n.as_ptr(),
+                n.len(),
+                f.as_ptr(),
+                f.len(),
+                options,
+                out.as_mut_ptr(),
+                out.len(),
+                &mut values,
+            )
+        };
         assert_eq!(no, 0);
         values[1] as usize
     }
@@ -83,11 +106,15 @@ fn main() {
     for (with, file) in [("no TREE", index.clone()), ("a TREE of 4,041 nodes", with_tree(&index))] {
         let options = decode::Options { thread_limit: Some(1), ..Default::default() };
         let state = State::from_bytes(&file, zero, gix_hash::Kind::Sha1, options).unwrap().0;
-        assert_eq!(state.tree().is_some(), init::tree_decode(&tree()).is_some() && with != "no TREE");
+        assert_eq!(
+            state.tree().is_some(),
+            init::tree_decode(&tree(), gix_hash::Kind::Sha1).is_some() && with != "no TREE"
+        );
         let table = table(file);
-        let records = table.records.len() / 96;
+        let records = table.records.len() / RECORD_SIZE;
         for (trailer, hashed) in [("no hash", false), ("hash", true)] {
-            let bits = if state.tree().is_some() { TREE_GIVEN + TREE_ASKED } else { 0 } + if hashed { 0 } else { UNHASHED };
+            let bits = if state.tree().is_some() { WRITE_TREE_GIVEN + WRITE_TREE } else { 0 }
+                + if hashed { 0 } else { WRITE_UNHASHED };
             let (mut ours, mut rust, mut size) = (f64::MAX, f64::MAX, 0);
             let (mut out, mut theirs) = (vec![1; table.file.len() + 100], Vec::with_capacity(table.file.len() + 100));
             for _ in 0..rounds {
@@ -96,7 +123,14 @@ fn main() {
             }
             assert!(out[..size] == theirs[..], "other bytes than the Rust's");
             let each = |t: f64| t * 1e9 / records as f64;
-            println!("{},{:03} records, {with}, {trailer}: {:.1} ns a record, the Rust {:.1}; {:.2} of the Rust", records / 1000, records % 1000, each(ours), each(rust), ours / rust);
+            println!(
+                "{},{:03} records, {with}, {trailer}: {:.1} ns a record, the Rust {:.1}; {:.2} of the Rust",
+                records / 1000,
+                records % 1000,
+                each(ours),
+                each(rust),
+                ours / rust
+            );
         }
     }
 }

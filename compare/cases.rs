@@ -59,7 +59,11 @@ pub fn table_text(t: &[Entry]) -> String {
         let fields: Vec<String> = e.fields.iter().map(u32::to_string).collect();
         format!("{},{},{},{}", fields.join(","), hex(&e.id), e.flags, hex(&e.path))
     };
-    if t.is_empty() { "-".into() } else { t.iter().map(one).collect::<Vec<_>>().join(";") }
+    if t.is_empty() {
+        "-".into()
+    } else {
+        t.iter().map(one).collect::<Vec<_>>().join(";")
+    }
 }
 
 pub fn table_of(s: &str) -> Vec<Entry> {
@@ -77,9 +81,13 @@ impl Case {
             Case::File(s) | Case::Own(s) => hex(s),
             Case::Eoie(s) => format!("eoie {}", hex(s)),
             Case::Ieot(s) => format!("ieotfind {}", hex(s)),
-            Case::Max(size, from, version) => format!("max {size} {} {version}", from.map_or("-".into(), |o| o.to_string())),
+            Case::Max(size, from, version) => {
+                format!("max {size} {} {version}", from.map_or("-".into(), |o| o.to_string()))
+            }
             Case::Order(t) => format!("tverify {}", table_text(t)),
-            Case::Lookup(t, path, stage) => format!("tlookup {} {stage} {}", if path.is_empty() { "-".into() } else { hex(path) }, table_text(t)),
+            Case::Lookup(t, path, stage) => {
+                format!("tlookup {} {stage} {}", if path.is_empty() { "-".into() } else { hex(path) }, table_text(t))
+            }
             Case::Write(t) => t.line(),
         }
     }
@@ -136,7 +144,14 @@ fn is_sorted(t: &[Entry]) -> bool {
 
 impl Judge {
     pub fn new(plant: Plant) -> Judge {
-        Judge { plant, rows: BTreeMap::new(), alike: 0, failures: 0, classes: BTreeMap::new(), quiet: plant != Plant::Nothing }
+        Judge {
+            plant,
+            rows: BTreeMap::new(),
+            alike: 0,
+            failures: 0,
+            classes: BTreeMap::new(),
+            quiet: plant != Plant::Nothing,
+        }
     }
     pub fn fail(&mut self, what: &str, input: &str, ours: &str, other: &str) {
         self.failures += 1;
@@ -188,7 +203,7 @@ impl Judge {
             }
             Case::Ieot(s) => {
                 let mut ours = library::ieot(s, 0);
-                // the same bytes behind others
+                // the same bytes after others
                 let shifted = [vec![b'x'; 37], s.clone()].concat();
                 if library::ieot(&shifted, 37) != ours {
                     self.fail("IEOT at an offset", &case.line(), "", "");
@@ -226,7 +241,9 @@ impl Judge {
             13 if v[1..] == [0; 7] => format!("out of order {}", v[0]),
             n => format!("refused {n} {v:?}"),
         };
-        let rule = (1..t.len()).find(|i| key(&t[i - 1]) >= key(&t[*i])).map_or("sorted".into(), |i| format!("out of order {i}"));
+        let rule = (1..t.len())
+            .find(|i| key(&t[i - 1]) >= key(&t[*i]))
+            .map_or("sorted".into(), |i| format!("out of order {i}"));
         self.class(if rule == "sorted" { "tables in order" } else { "tables not in order" });
         self.same(case, &ours, &rule, said);
     }
@@ -237,7 +254,12 @@ impl Judge {
         let (found, compared) = halving(t, (path, stage));
         let wanted = [found.is_some() as u64, found.unwrap_or(0) as u64, compared, 0, 0, 0, 0, 0];
         if (number, v) != (0, wanted) || (!t.is_empty() && compared > 1 + t.len().ilog2() as u64) {
-            return self.fail("lookup against the halving rule", &case.line(), &format!("{number} {v:?}"), &format!("0 {wanted:?}"));
+            return self.fail(
+                "lookup against the halving rule",
+                &case.line(),
+                &format!("{number} {v:?}"),
+                &format!("0 {wanted:?}"),
+            );
         }
         self.class(if found.is_some() { "lookups that find" } else { "lookups that do not find" });
         let text = format!("{found:?}");
@@ -245,7 +267,11 @@ impl Judge {
             self.alike += 1;
         } else {
             // D15: only in a table that is not sorted, and what the Rust finds has that path and stage too
-            let theirs = said.unwrap().strip_prefix("Some(").and_then(|s| s.strip_suffix(')')).and_then(|s| s.parse::<usize>().ok());
+            let theirs = said
+                .unwrap()
+                .strip_prefix("Some(")
+                .and_then(|s| s.strip_suffix(')'))
+                .and_then(|s| s.parse::<usize>().ok());
             let right = theirs.is_none_or(|i| i < t.len() && key(&t[i]) == (path, stage));
             let known = !is_sorted(t) && right && (theirs.is_some() || said == Some("None"));
             if !self.parts(known.then_some(Row::D15)) {
@@ -256,7 +282,8 @@ impl Judge {
     fn file(&mut self, s: &[u8], said: Option<&str>, own: bool) {
         let rule = model::ours(s, model::ALL);
         let need = needed(&rule);
-        let rooms = Rooms { records: need.records + 2 * RECORD + 5, paths: need.paths + 77, nodes: need.nodes + NODE + 3 };
+        let rooms =
+            Rooms { records: need.records + 2 * RECORD + 5, paths: need.paths + 77, nodes: need.nodes + NODE + 3 };
         let Some(ours) = self.read(s, rooms, &rule.reading) else { return };
         if !self.entries(s, rooms) {
             return;
@@ -266,10 +293,13 @@ impl Judge {
             return;
         };
         let flags = |eoie: bool, ieot: bool| format!(" eoie={eoie} ieot={ieot}");
-        let plain = [(false, false), (false, true), (true, false), (true, true)].iter().fold(said.to_string(), |t, (e, i)| t.replacen(&flags(*e, *i), "", 1));
+        let plain = [(false, false), (false, true), (true, false), (true, true)]
+            .iter()
+            .fold(said.to_string(), |t, (e, i)| t.replacen(&flags(*e, *i), "", 1));
         let text = model::line(&ours, s, &(0..ours.nodes.len()).collect::<Vec<_>>());
         let rust = model::rust(s);
-        let theirs = rust.error.clone().unwrap_or_else(|| model::line(&rust.reading, s, &model::sorted(&rust.reading.nodes, s)));
+        let theirs =
+            rust.error.clone().unwrap_or_else(|| model::line(&rust.reading, s, &model::sorted(&rust.reading.nodes, s)));
         if plain != theirs || (rust.error.is_none() && !said.contains(&flags(rust.eoie, rust.ieot))) {
             return self.fail("the Rust against the rules of DIFFERENCES", &hex(s), &theirs, said);
         }
@@ -296,7 +326,12 @@ impl Judge {
         let bytes = model::stores(r, rooms);
         let good = (n, v) == wanted && records.is(&bytes[0]) && paths.is(&bytes[1]);
         if !good {
-            self.fail(&format!("the entries alone, {rooms:?}"), &hex(s), &format!("{:?}", (n, v)), &format!("{wanted:?}"));
+            self.fail(
+                &format!("the entries alone, {rooms:?}"),
+                &hex(s),
+                &format!("{:?}", (n, v)),
+                &format!("{wanted:?}"),
+            );
         }
         good
     }
@@ -320,19 +355,43 @@ impl Judge {
         }
         ours.reading.node_store = rule.node_store;
         match rule.refused {
-            Some((n, _)) => self.class(["read", "refused 1", "refused 2", "refused 3", "refused 4", "refused 5", "refused 6", "refused 7", "refused 8", "refused 9", "refused 10"][n as usize]),
+            Some((n, _)) => self.class(
+                [
+                    "read",
+                    "refused 1",
+                    "refused 2",
+                    "refused 3",
+                    "refused 4",
+                    "refused 5",
+                    "refused 6",
+                    "refused 7",
+                    "refused 8",
+                    "refused 9",
+                    "refused 10",
+                ][n as usize],
+            ),
             None => self.class(if rule.tree { "read, with a tree" } else { "read, no tree" }),
         }
         if ours.reading != *rule {
-            let text = |r: &Reading| format!("{:?} {}", r.refused, model::line(r, s, &(0..r.nodes.len()).collect::<Vec<_>>()));
+            let text =
+                |r: &Reading| format!("{:?} {}", r.refused, model::line(r, s, &(0..r.nodes.len()).collect::<Vec<_>>()));
             self.fail(&format!("against the rules of 01, {rooms:?}"), &hex(s), &text(&ours.reading), &text(rule));
             return None;
         }
         let wanted = model::stores(rule, rooms);
-        let stores: [(&str, &Store, &Vec<u8>); 3] = [("records", &ours.records, &wanted[0]), ("paths", &ours.paths, &wanted[1]), ("nodes", &ours.nodes, &wanted[2])];
+        let stores: [(&str, &Store, &Vec<u8>); 3] = [
+            ("records", &ours.records, &wanted[0]),
+            ("paths", &ours.paths, &wanted[1]),
+            ("nodes", &ours.nodes, &wanted[2]),
+        ];
         for (name, store, wanted) in stores {
             if !store.is(wanted) {
-                self.fail(&format!("the bytes of the store of {name}, {rooms:?}"), &hex(s), &hex(store.lent()), &hex(wanted));
+                self.fail(
+                    &format!("the bytes of the store of {name}, {rooms:?}"),
+                    &hex(s),
+                    &hex(store.lent()),
+                    &hex(wanted),
+                );
                 return None;
             }
         }
@@ -351,7 +410,8 @@ impl Judge {
         }
         for rooms in &all {
             let rule = model::ours(s, *rooms).reading;
-            let compare = |j: &mut Judge| j.alike += (j.read(s, *rooms, &rule).is_some() && j.entries(s, *rooms)) as usize;
+            let compare =
+                |j: &mut Judge| j.alike += (j.read(s, *rooms, &rule).is_some() && j.entries(s, *rooms)) as usize;
             self.guarded(compare, || hex(s));
         }
         all.len()
@@ -366,7 +426,7 @@ impl Judge {
         let past = (paths.len() as u64).saturating_add(far.saturating_add(1));
         records[at + 84..at + 92].copy_from_slice(&past.to_be_bytes());
         if far == 1 {
-            // an end before the start, both within the store's length or right behind it
+            // an end before the start, both within the store's length or right after it
             records[at + 76..at + 92].copy_from_slice(&[1u64.to_be_bytes(), 0u64.to_be_bytes()].concat());
         }
         self.class(if asked > 3 { "D14: a path outside; stage above 3" } else { "D14: a path outside" });
@@ -400,13 +460,23 @@ impl Judge {
         }
         let ours = library::lookup(&records, &paths, path, asked);
         if ours != wanted {
-            self.fail("lookup, a path outside or no stage", &table_text(t), &format!("{ours:?}"), &format!("{wanted:?}"));
+            self.fail(
+                "lookup, a path outside or no stage",
+                &table_text(t),
+                &format!("{ours:?}"),
+                &format!("{wanted:?}"),
+            );
         } else {
             self.alike += 1;
         }
     }
     pub fn report(&self, what: &str) {
-        println!("{what}: {} alike, {} known differences, {} failures", self.alike, self.rows.values().sum::<usize>(), self.failures);
+        println!(
+            "{what}: {} alike, {} known differences, {} failures",
+            self.alike,
+            self.rows.values().sum::<usize>(),
+            self.failures
+        );
         for (name, n) in &self.classes {
             println!("    {n:>8}  {name}");
         }

@@ -1,4 +1,4 @@
-//! The smallest inputs of docs/DIFFERENCES.md, each with the row under which the Rust parts from us, or none where both answer alike.
+//! The smallest inputs of docs/DIFFERENCES.md, each with the row under which the Rust differs from us, or none where both answer alike.
 use crate::cases::{unhex, Case};
 use crate::generate::{extension, header};
 use crate::model::{Entry, Row};
@@ -26,7 +26,8 @@ pub fn all() -> Vec<(&'static str, Case, Option<Row>)> {
     let file = |parts: &[&[u8]]| Case::File([parts.concat(), z.clone()].concat());
     let hex = unhex;
     let deep = [b"\0-1 1\n".repeat(64), b"\0-1 0\n".to_vec()].concat();
-    let record = |mode: u32, path: Vec<u8>| Entry { fields: [0, 0, 0, 0, 0, 0, mode, 0, 0, 0], id: [0; 20], flags: 0, path };
+    let record =
+        |mode: u32, path: Vec<u8>| Entry { fields: [0, 0, 0, 0, 0, 0, mode, 0, 0, 0], id: [0; 20], flags: 0, path };
     let table = |entries: Vec<Entry>, tree: Option<Vec<u8>>| Table { entries, word: "all", sparse: false, tree };
     let long = table(vec![record(0o100644, vec![b'a'; 4095]), record(0o100644, b"b".to_vec())], None);
     let twice = Entry { fields: [0; 10], id: [0; 20], flags: 0, path: b"a".to_vec() };
@@ -35,7 +36,17 @@ pub fn all() -> Vec<(&'static str, Case, Option<Row>)> {
     vec![
         ("D1a", file(&[&header(2, 1)]), Some(Row::D1)),
         ("count-of-ones", file(&[&header(2, u32::MAX)]), Some(Row::D1)),
-        ("D1b", file(&[&header(2, 1), &hex("4141414100000038"), &zeros(52), &hex("00016100"), &hex("454f4945000000180000000cf9129b9a47d3eeba2b049a248dc652e766b92f6f")]), Some(Row::D1)),
+        (
+            "D1b",
+            file(&[
+                &header(2, 1),
+                &hex("4141414100000038"),
+                &zeros(52),
+                &hex("00016100"),
+                &hex("454f4945000000180000000cf9129b9a47d3eeba2b049a248dc652e766b92f6f"),
+            ]),
+            Some(Row::D1),
+        ),
         ("D2", file(&[&header(4, 1), &v4("80fefefefefefefeff00", b"\0")]), Some(Row::D2)),
         ("D3a", file(&[&header(2, 1), &zeros(60), &hex("0fff"), &hex("0000")]), Some(Row::D3)),
         ("D3b", file(&[&header(2, 1), &zeros(60), &hex("0fff"), &hex("00"), &hex("4142434400000000")]), Some(Row::D3)),
@@ -55,13 +66,26 @@ pub fn all() -> Vec<(&'static str, Case, Option<Row>)> {
         ("D12", Case::Write(long.clone()), None),
         ("D12, read back", Case::File(writing::ours(&long.lent(), long.asked()).unwrap().1), Some(Row::D12)),
         ("D13", Case::Write(table(vec![record(u32::MAX, b"a".to_vec())], None)), None),
-        ("not-in-order, written", Case::Write(table(vec![record(0o100644, b"b".to_vec()), record(0o100644, b"a".to_vec())], None)), None),
+        (
+            "not-in-order, written",
+            Case::Write(table(vec![record(0o100644, b"b".to_vec()), record(0o100644, b"a".to_vec())], None)),
+            None,
+        ),
         ("nul-in-path, written", Case::Write(table(vec![record(0o100644, b"a\0b".to_vec())], None)), None),
         ("directory-without-sdir", Case::Write(table(vec![record(0o40000, b"a/".to_vec())], None)), None),
         ("D15", Case::Lookup(vec![twice.clone(), twice.clone(), twice], b"a".to_vec(), 0), Some(Row::D15)),
         ("extended-in-v2", file(&[&header(2, 1), &changed(entry(b"\x20\0a"), 60, &hex("4001"))]), None),
         ("link", file(&[&header(2, 0), &extension(b"link", b"")]), None),
-        ("unread", file(&[&header(2, 0), &extension(b"UNTR", b"\xff"), &extension(b"REUC", b"\xff"), &extension(b"FSMN", b"\xff")]), None),
+        (
+            "unread",
+            file(&[
+                &header(2, 0),
+                &extension(b"UNTR", b"\xff"),
+                &extension(b"REUC", b"\xff"),
+                &extension(b"FSMN", b"\xff"),
+            ]),
+            None,
+        ),
         ("optional-between", file(&[&header(2, 0), &extension(b"_abc", b"")]), None),
         ("optional-below-A", file(&[&header(2, 0), &extension(b"1abc", b"")]), None),
         ("first-number", file(&[&header(4, 1), &v4("05", b"a\0")]), None),
@@ -71,8 +95,19 @@ pub fn all() -> Vec<(&'static str, Case, Option<Row>)> {
         ("not-in-order", file(&[&header(2, 2), &entry(b"b"), &entry(b"a")]), None),
         ("path-rules", file(&[&header(2, 3), &entry(b"/a/"), &entry(b".git"), &entry(b"a//../b")]), None),
         ("zero trailer", file(&[&header(2, 0)]), None),
-        ("tree-signs", file(&[&header(2, 0), &extension(b"TREE", &[b"\0+001 0002\n".as_slice(), &id, b"a\0-0 0\n", &id, b"b\0-7 00\n"].concat())]), None),
-        ("tree-sign-of-subtrees", file(&[&header(2, 0), &extension(b"TREE", &[b"\x001 +0\n".as_slice(), &id].concat())]), None),
+        (
+            "tree-signs",
+            file(&[
+                &header(2, 0),
+                &extension(b"TREE", &[b"\0+001 0002\n".as_slice(), &id, b"a\0-0 0\n", &id, b"b\0-7 00\n"].concat()),
+            ]),
+            None,
+        ),
+        (
+            "tree-sign-of-subtrees",
+            file(&[&header(2, 0), &extension(b"TREE", &[b"\x001 +0\n".as_slice(), &id].concat())]),
+            None,
+        ),
         ("mode-of-ones", file(&[&header(2, 1), &changed(entry(b"a"), 24, b"\xff\xff\xff\xff")]), None),
     ]
 }

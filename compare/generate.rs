@@ -70,11 +70,15 @@ fn path(r: &mut Rng, long: bool) -> Vec<u8> {
     }
 }
 
-/// One entry as the file spells it, mostly rightly.
+/// One entry as the file spells it, mostly correctly.
 fn spell(r: &mut Rng, version: u32, previous: &mut Vec<u8>, path: Vec<u8>, odd: bool) -> Vec<u8> {
     let mut out = vec![];
     for i in 0..10 {
-        let v = if i == 6 { r.pick(&[0o100644, 0o100644, 0o100755, 0o120000, 0o160000, 0o40000, 0, 0xffff_ffff, 0o100600]) } else { number(r) };
+        let v = if i == 6 {
+            r.pick(&[0o100644, 0o100644, 0o100755, 0o120000, 0o160000, 0o40000, 0, 0xffff_ffff, 0o100600])
+        } else {
+            number(r)
+        };
         out.extend(v.to_be_bytes());
     }
     out.extend(if r.one_in(4) { vec![0; 20] } else { r.bytes(20) });
@@ -87,7 +91,11 @@ fn spell(r: &mut Rng, version: u32, previous: &mut Vec<u8>, path: Vec<u8>, odd: 
     flags |= field | if extended { 0x4000 } else { 0 };
     out.extend(flags.to_be_bytes());
     if extended {
-        let more: u16 = if odd && r.one_in(4) { r.pick(&[0x8000, 1, 0x1000, 0x6001, 0xffff]) } else { r.pick(&[0, 0x2000, 0x4000, 0x6000]) };
+        let more: u16 = if odd && r.one_in(4) {
+            r.pick(&[0x8000, 1, 0x1000, 0x6001, 0xffff])
+        } else {
+            r.pick(&[0, 0x2000, 0x4000, 0x6000])
+        };
         out.extend(more.to_be_bytes());
     }
     if version == 4 {
@@ -100,7 +108,11 @@ fn spell(r: &mut Rng, version: u32, previous: &mut Vec<u8>, path: Vec<u8>, odd: 
                 1 => groups(previous.len() as u64 + r.below(3) as u64),
                 2 => [vec![0x80], vec![0xfe; 7], vec![0xff, r.below(128) as u8]].concat(),
                 3 => [vec![128 | r.below(128) as u8; 1 + r.below(11)], vec![r.below(128) as u8]].concat(),
-                4 => [vec![0x80, 0xfe, 0xfe, 0xfe, 0xfe, 0xfe, 0xfe, 0xfe], vec![r.pick(&[0xfe, 0xff, 0x80]), r.pick(&[0x7f, 0, 0xff]), r.below(128) as u8]].concat(),
+                4 => [
+                    vec![0x80, 0xfe, 0xfe, 0xfe, 0xfe, 0xfe, 0xfe, 0xfe],
+                    vec![r.pick(&[0xfe, 0xff, 0x80]), r.pick(&[0x7f, 0, 0xff]), r.below(128) as u8],
+                ]
+                .concat(),
                 _ => r.bytes(1),
             };
         }
@@ -122,11 +134,34 @@ fn node(r: &mut Rng, out: &mut Vec<u8>, name: &[u8], depth: usize, odd: bool) {
     let children = if depth >= 6 { 0 } else { r.pick(&[0, 0, 0, 1, 2, 3]) };
     let count = r.below(6) as i32 - 1;
     let text = if odd && r.one_in(6) {
-        r.pick(&["+1", "007", "-0", "+", "-", "", "+-1", "2147483647", "2147483648", "-2147483648", "-2147483649", "-7", "x", "1x", "--1", "+0"]).to_string()
+        r.pick(&[
+            "+1",
+            "007",
+            "-0",
+            "+",
+            "-",
+            "",
+            "+-1",
+            "2147483647",
+            "2147483648",
+            "-2147483648",
+            "-2147483649",
+            "-7",
+            "x",
+            "1x",
+            "--1",
+            "+0",
+        ])
+        .to_string()
     } else {
         count.to_string()
     };
-    let subtrees = if odd && r.one_in(6) { r.pick(&["+0", "-0", "00", "", "1", "2", "0000002", "18446744073709551615", "18446744073709551616", "x"]).to_string() } else { children.to_string() };
+    let subtrees = if odd && r.one_in(6) {
+        r.pick(&["+0", "-0", "00", "", "1", "2", "0000002", "18446744073709551615", "18446744073709551616", "x"])
+            .to_string()
+    } else {
+        children.to_string()
+    };
     out.extend(text.as_bytes());
     out.push(if odd && r.one_in(40) { b'\n' } else { b' ' });
     out.extend(subtrees.as_bytes());
@@ -136,7 +171,9 @@ fn node(r: &mut Rng, out: &mut Vec<u8>, name: &[u8], depth: usize, odd: bool) {
         let n = if odd && r.one_in(20) { 19 } else { 20 };
         out.extend(r.bytes(n));
     }
-    let mut names: Vec<Vec<u8>> = (0..children).map(|i| [vec![b'a' + i as u8; 1 + r.below(2)], r.pick(&[&b""[..], b"x", b"\xff", b"/"]).to_vec()].concat()).collect();
+    let mut names: Vec<Vec<u8>> = (0..children)
+        .map(|i| [vec![b'a' + i as u8; 1 + r.below(2)], r.pick(&[&b""[..], b"x", b"\xff", b"/"]).to_vec()].concat())
+        .collect();
     if odd && children > 1 && r.one_in(6) {
         names[0] = names[children - 1].clone();
     }
@@ -260,7 +297,11 @@ pub fn file(r: &mut Rng) -> Vec<u8> {
     if !r.one_in(4) {
         paths.sort();
     }
-    let count = if odd && r.one_in(12) { r.pick(&[n as u32 + 1, (n as u32).wrapping_sub(1), 0, u32::MAX, 1 << 20]) } else { n as u32 };
+    let count = if odd && r.one_in(12) {
+        r.pick(&[n as u32 + 1, (n as u32).wrapping_sub(1), 0, u32::MAX, 1 << 20])
+    } else {
+        n as u32
+    };
     let mut out = header(version, count);
     let mut previous = vec![];
     for p in paths {
@@ -309,7 +350,8 @@ pub fn table(r: &mut Rng) -> Vec<Entry> {
     let mut t: Vec<Entry> = (0..n)
         .map(|_| {
             let fields = std::array::from_fn(|_| number(r));
-            let flags = r.pick(&[0, 0x1000, 0x2000, 0x3000]) | if r.one_in(2) { r.next() as u32 & 0xffff_cfff } else { 0 };
+            let flags =
+                r.pick(&[0, 0x1000, 0x2000, 0x3000]) | if r.one_in(2) { r.next() as u32 & 0xffff_cfff } else { 0 };
             Entry { fields, id: r.bytes(20).try_into().unwrap(), flags, path: table_path(r) }
         })
         .collect();
@@ -329,14 +371,17 @@ pub fn written_table(r: &mut Rng) -> Vec<Entry> {
     if t.len() < 14 && r.one_in(12) {
         for e in &mut t {
             if r.one_in(2) {
-                e.path = vec![r.pick(b"ab/\xff"); r.pick(&[4094, 4095, 4096, 4097, 4103, 5000, 4094 + r.clone().below(906)])];
+                e.path = vec![
+                    r.pick(b"ab/\xff");
+                    r.pick(&[4094, 4095, 4096, 4097, 4103, 5000, 4094 + r.clone().below(906)])
+                ];
             }
         }
     }
     t
 }
 
-/// Changes a few bytes of a node table so that it may be proper no more: numbers that are just right or just wrong, at any place.
+/// Changes a few bytes of a node table so that it may no longer be proper: numbers that are just right or just wrong, at any place.
 pub fn spoil(r: &mut Rng, nodes: &mut Vec<u8>, names: &mut Vec<u8>) {
     match r.below(8) {
         0 => nodes.truncate(r.below(nodes.len() + 1)),
@@ -356,7 +401,20 @@ pub fn spoil(r: &mut Rng, nodes: &mut Vec<u8>, names: &mut Vec<u8>) {
         }
         _ if nodes.len() >= 72 => {
             let at = 72 * r.below(nodes.len() / 72) + 8 * r.below(5);
-            let v = r.pick(&[0, 1, 2, 3, 1 << 31, (1 << 31) - 1, u32::MAX as u64, u64::MAX, u64::MAX - 1, names.len() as u64, names.len() as u64 + 1, 1 << 63]);
+            let v = r.pick(&[
+                0,
+                1,
+                2,
+                3,
+                1 << 31,
+                (1 << 31) - 1,
+                u32::MAX as u64,
+                u64::MAX,
+                u64::MAX - 1,
+                names.len() as u64,
+                names.len() as u64 + 1,
+                1 << 63,
+            ]);
             nodes[at..at + 8].copy_from_slice(&v.to_be_bytes());
         }
         _ => {}

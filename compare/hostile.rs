@@ -1,8 +1,8 @@
 //! Hostile input over the C boundary. Every lent slice, the eight values and the twenty bytes of an id too, ends right before a page that may not be touched; in a
-//! second turn it begins right behind one. So a byte read or written outside ends the process, which is a child of its own. What is lent to be read must stay as it
+//! second turn it begins right after one. So a byte read or written outside ends the process, which is a child of its own. What is lent to be read must stay as it
 //! was, and so must the bytes on the open side.
+use crate::declarations::*;
 use crate::generate::{self, Rng};
-use crate::library::raw::*;
 use crate::model::{NODE, RECORD};
 use crate::write_cases::Table;
 use std::io::Write;
@@ -27,7 +27,7 @@ const MOST: usize = 1 << 20;
 
 #[derive(Clone, Copy, PartialEq, Debug)]
 pub enum Turn {
-    /// the page that may not be touched stands behind the slice
+    /// the page that may not be touched follows the slice
     Behind,
     Before,
 }
@@ -36,7 +36,7 @@ pub enum Turn {
 #[derive(Clone, Copy, PartialEq, Debug)]
 pub enum Fault {
     Nothing,
-    /// the harness reads one byte behind a slice, or one before it
+    /// the harness reads one byte after a slice, or one before it
     Touch,
     /// the library is told that a slice has one byte more, or begins one byte sooner
     Told,
@@ -58,14 +58,19 @@ impl Fenced {
         let base = unsafe {
             let all = mmap(std::ptr::null_mut(), MOST + 2 * PAGE, READ_WRITE, PRIVATE_ANONYMOUS, -1, 0);
             assert!(all as isize != -1, "no memory");
-            assert!(mprotect(all, PAGE, NO_ACCESS) == 0 && mprotect(all.add(PAGE + MOST), PAGE, NO_ACCESS) == 0, "no protection");
+            assert!(
+                mprotect(all, PAGE, NO_ACCESS) == 0 && mprotect(all.add(PAGE + MOST), PAGE, NO_ACCESS) == 0,
+                "no protection"
+            );
             all.add(PAGE)
         };
         Fenced { base, turn, at: base, n: 0, was: vec![] }
     }
     fn near(&self) -> &[u8] {
         let n = NEAR.min(MOST - self.n);
-        unsafe { std::slice::from_raw_parts(if self.turn == Turn::Behind { self.at.sub(n) } else { self.at.add(self.n) }, n) }
+        unsafe {
+            std::slice::from_raw_parts(if self.turn == Turn::Behind { self.at.sub(n) } else { self.at.add(self.n) }, n)
+        }
     }
     /// Lends these bytes.
     fn read(&mut self, s: &[u8]) -> (*const u8, usize) {
@@ -84,7 +89,11 @@ impl Fenced {
             self.at = if self.turn == Turn::Behind { self.base.add(MOST - self.n) } else { self.base };
             std::ptr::copy_nonoverlapping(s.as_ptr(), self.at, self.n);
             let near = NEAR.min(MOST - self.n);
-            std::ptr::write_bytes(if self.turn == Turn::Behind { self.at.sub(near) } else { self.at.add(self.n) }, SENTINEL, near);
+            std::ptr::write_bytes(
+                if self.turn == Turn::Behind { self.at.sub(near) } else { self.at.add(self.n) },
+                SENTINEL,
+                near,
+            );
         }
     }
     fn now(&self) -> &[u8] {
@@ -101,7 +110,23 @@ impl Fenced {
     }
 }
 
-pub const FUNCTIONS: [&str; 15] = ["read", "entries", "write", "max_entries", "sha1", "eoie", "ieot_count", "ieot_pair", "lookup", "check_order", "record", "record_stat", "record_id", "node", "node_id"];
+pub const FUNCTIONS: [&str; 15] = [
+    "read",
+    "entries",
+    "write",
+    "max_entries",
+    "sha1",
+    "eoie",
+    "ieot_count",
+    "ieot_pair",
+    "lookup",
+    "check_order",
+    "record",
+    "record_stat",
+    "record_id",
+    "node",
+    "node_id",
+];
 
 struct Harness {
     calls: [usize; 15],
@@ -147,7 +172,8 @@ fn file(r: &mut Rng) -> Vec<u8> {
             let n = r.below(300);
             r.bytes(n)
         }
-        1 => [generate::header(r.pick(&[2, 3, 4]), r.pick(&[0, 1, 2, 9, u32::MAX])), r.clone().bytes(r.below(300))].concat(),
+        1 => [generate::header(r.pick(&[2, 3, 4]), r.pick(&[0, 1, 2, 9, u32::MAX])), r.clone().bytes(r.below(300))]
+            .concat(),
         _ => generate::file(r),
     }
 }
@@ -175,20 +201,32 @@ fn spoiled(r: &mut Rng, mut s: Vec<u8>) -> Vec<u8> {
 impl Harness {
     fn new(turn: Turn, fault: Fault) -> Harness {
         let f = || Fenced::new(turn);
-        Harness { calls: [0; 15], done: [0; 2], file: f(), records: f(), paths: f(), nodes: f(), key: f(), out: f(), values: f(), id: f(), fault }
+        Harness {
+            calls: [0; 15],
+            done: [0; 2],
+            file: f(),
+            records: f(),
+            paths: f(),
+            nodes: f(),
+            key: f(),
+            out: f(),
+            values: f(),
+            id: f(),
+            fault,
+        }
     }
     fn call(&mut self, name: &str) {
         self.calls[FUNCTIONS.iter().position(|f| *f == name).unwrap()] += 1;
     }
-    fn values(&mut self) -> *mut u64 {
-        self.values.room(64).0 as *mut u64
+    fn values(&mut self) -> *mut [u64; VALUES] {
+        self.values.room(8 * VALUES).0.cast()
     }
-    fn told(&self) -> [u64; 8] {
+    fn told(&self) -> [u64; VALUES] {
         self.values.kept();
         std::array::from_fn(|i| u64::from_ne_bytes(self.values.now()[8 * i..8 * i + 8].try_into().unwrap()))
     }
-    fn id(&mut self) -> *mut u8 {
-        self.id.room(20).0
+    fn id(&mut self) -> *mut [u8; ID_SIZE] {
+        self.id.room(ID_SIZE).0.cast()
     }
     /// Reads a file into stores of some size and answers what they hold.
     fn read_file(&mut self, r: &mut Rng, s: &[u8]) -> [Vec<u8>; 3] {
@@ -204,12 +242,18 @@ impl Harness {
         self.done[0] += (number == 0) as usize;
         self.file.stayed();
         [&self.records, &self.paths, &self.nodes].iter().for_each(|x| x.kept());
-        let used = if number == 0 { [v[3] as usize * RECORD, v[4] as usize, v[5] as usize * NODE] } else { [nr, np, nn] };
-        [self.records.now()[..used[0]].to_vec(), self.paths.now()[..used[1]].to_vec(), self.nodes.now()[..used[2]].to_vec()]
+        let used =
+            if number == 0 { [v[3] as usize * RECORD, v[4] as usize, v[5] as usize * NODE] } else { [nr, np, nn] };
+        [
+            self.records.now()[..used[0]].to_vec(),
+            self.paths.now()[..used[1]].to_vec(),
+            self.nodes.now()[..used[2]].to_vec(),
+        ]
     }
     fn read_parts(&mut self, r: &mut Rng, s: &[u8]) {
         let (f, n) = self.file.read(s);
-        let (version, count) = (r.pick(&[2, 3, 4, 4, 0, 77]), number(r, 5).min(if r.one_in(4) { usize::MAX } else { 9 }));
+        let (version, count) =
+            (r.pick(&[2, 3, 4, 4, 0, 77]), number(r, 5).min(if r.one_in(4) { usize::MAX } else { 9 }));
         let ((rs, nr), (ps, np)) = (self.records.room(r.below(500)), self.paths.room(r.below(100)));
         let v = self.values();
         self.call("entries");
@@ -262,21 +306,27 @@ impl Harness {
             sparrowpivot_node(ns, nn, j, v);
             sparrowpivot_node_id(ns, nn, j, id);
         }
-        ["lookup", "check_order", "record", "record_stat", "record_id", "node", "node_id"].iter().for_each(|f| self.call(f));
+        ["lookup", "check_order", "record", "record_stat", "record_id", "node", "node_id"]
+            .iter()
+            .for_each(|f| self.call(f));
         self.told();
         self.id.kept();
         [&self.records, &self.paths, &self.nodes, &self.key].iter().for_each(|x| x.stayed());
     }
     /// Writes a table: once for the size, and then into an output of that size or another.
     fn write_tables(&mut self, r: &mut Rng, t: &[Vec<u8>; 3], names: &[u8]) {
-        let ((rs, nr), (ps, np), (ns, nn), (ms, nm)) = (self.records.read(&t[0]), self.paths.read(&t[1]), self.nodes.read(&t[2]), self.file.read(names));
+        let ((rs, nr), (ps, np), (ns, nn), (ms, nm)) =
+            (self.records.read(&t[0]), self.paths.read(&t[1]), self.nodes.read(&t[2]), self.file.read(names));
         let options = r.next() as u32 | if r.one_in(2) { 3 } else { 0 };
         let (v, (os, no)) = (self.values(), self.out.room(0));
         self.call("write");
         let number = unsafe { sparrowpivot_write(rs, nr, ps, np, ns, nn, ms, nm, options, os, no, v) };
         let told = self.told();
         assert!(number == 14 || number == 12 || number == 15 || number == 16, "an output of no bytes is refused");
-        let (v, (os, no)) = (self.values(), self.out.room(size(r, if number == 14 { told[0].min(MOST as u64) as usize } else { r.clone().below(300) })));
+        let (v, (os, no)) = (
+            self.values(),
+            self.out.room(size(r, if number == 14 { told[0].min(MOST as u64) as usize } else { r.clone().below(300) })),
+        );
         self.call("write");
         let number = unsafe { sparrowpivot_write(rs, nr, ps, np, ns, nn, ms, nm, options, os, no, v) };
         self.done[1] += (number == 0) as usize;
@@ -300,7 +350,11 @@ impl Harness {
         self.ask_tables(r, &m);
         self.write_tables(r, &m, &spoiled(&mut r.clone(), made.names));
         if self.fault == Fault::Touch {
-            let outside = if self.key.turn == Turn::Behind { self.key.at.wrapping_add(self.key.n) } else { self.key.at.wrapping_sub(1) };
+            let outside = if self.key.turn == Turn::Behind {
+                self.key.at.wrapping_add(self.key.n)
+            } else {
+                self.key.at.wrapping_sub(1)
+            };
             std::hint::black_box(unsafe { std::ptr::read_volatile(outside) });
         }
     }
@@ -311,7 +365,10 @@ pub fn turn_of(turn: &str, fault: &str) -> (Turn, Fault) {
     let turns = [Turn::Behind, Turn::Before];
     let faults = [Fault::Nothing, Fault::Touch, Fault::Told, Fault::Changed];
     let named = |x: &dyn std::fmt::Debug, w: &str| format!("{x:?}") == w;
-    (*turns.iter().find(|t| named(t, turn)).expect("a turn"), *faults.iter().find(|f| named(f, fault)).expect("a fault"))
+    (
+        *turns.iter().find(|t| named(t, turn)).expect("a turn"),
+        *faults.iter().find(|f| named(f, fault)).expect("a fault"),
+    )
 }
 
 /// One turn, in this process: prints how many calls of each function were made.
@@ -330,15 +387,31 @@ pub fn turn(turn: Turn, fault: Fault, seed: u64, rounds: u64) {
 
 /// One turn in a child: its last line, how it ended, and what it said of that.
 fn child(turn: Turn, fault: Fault, seed: u64, rounds: u64) -> (String, ExitStatus, String) {
-    let words = ["--hostile-turn".into(), format!("{turn:?}"), format!("{fault:?}"), "--seed".into(), seed.to_string(), "--rounds".into(), rounds.to_string()];
+    let words = [
+        "--hostile-turn".into(),
+        format!("{turn:?}"),
+        format!("{fault:?}"),
+        "--seed".into(),
+        seed.to_string(),
+        "--rounds".into(),
+        rounds.to_string(),
+    ];
     let out = Command::new(std::env::current_exe().unwrap()).args(words).output().expect("this program runs again");
-    (String::from_utf8_lossy(&out.stdout).lines().last().unwrap_or("").to_string(), out.status, String::from_utf8_lossy(&out.stderr).into_owned())
+    (
+        String::from_utf8_lossy(&out.stdout).lines().last().unwrap_or("").to_string(),
+        out.status,
+        String::from_utf8_lossy(&out.stderr).into_owned(),
+    )
 }
 
 /// Whether every function that the header declares is called here.
 fn calls_all() -> bool {
     let header = include_str!("../include/sparrowpivot.h");
-    let declared = header.lines().filter(|l| l.starts_with(|c: char| c.is_ascii_lowercase())).filter_map(|l| l.split_once(" sparrowpivot_")?.1.split_once('(')).map(|d| d.0);
+    let declared = header
+        .lines()
+        .filter(|l| l.starts_with(|c: char| c.is_ascii_lowercase()))
+        .filter_map(|l| l.split_once(" sparrowpivot_")?.1.split_once('('))
+        .map(|d| d.0);
     let mut names: Vec<&str> = declared.collect();
     names.retain(|n| !FUNCTIONS.contains(n));
     names.iter().for_each(|n| println!("FAILED hostile input does not call sparrowpivot_{n}"));
@@ -361,10 +434,15 @@ pub fn run(seed: u64, rounds: u64) -> usize {
 pub fn self_test(seed: u64) -> bool {
     let mut good = true;
     for turn in [Turn::Behind, Turn::Before] {
-        for (fault, wanted) in [(Fault::Nothing, None), (Fault::Touch, Some(11)), (Fault::Told, Some(11)), (Fault::Changed, None)] {
+        for (fault, wanted) in
+            [(Fault::Nothing, None), (Fault::Touch, Some(11)), (Fault::Told, Some(11)), (Fault::Changed, None)]
+        {
             let (_, ended, _) = child(turn, fault, seed, 50);
             let right = ended.signal() == wanted && (fault == Fault::Nothing) == ended.success();
-            println!("{}: hostile input, {turn:?}, {fault:?} planted: {ended}", if right { "as it should be" } else { "NOT AS IT SHOULD BE" });
+            println!(
+                "{}: hostile input, {turn:?}, {fault:?} planted: {ended}",
+                if right { "as it should be" } else { "NOT AS IT SHOULD BE" }
+            );
             good &= right;
         }
     }

@@ -1,29 +1,7 @@
 //! The static library, called as C calls it, over stores whose every byte is known before the call.
+use crate::declarations::*;
 use crate::model::{Entry, Node, Nodes, Reading, Rooms, NODE, RECORD};
 use crate::writing::Lent;
-
-/// As include/sparrowpivot.h declares them.
-pub mod raw {
-    #[link(name = "sparrowpivot", kind = "static")]
-    extern "C" {
-        pub fn sparrowpivot_read(file: *const u8, n: usize, records: *mut u8, nr: usize, paths: *mut u8, np: usize, nodes: *mut u8, nn: usize, values: *mut u64) -> u32;
-        pub fn sparrowpivot_entries(file: *const u8, n: usize, version: u32, count: usize, records: *mut u8, nr: usize, paths: *mut u8, np: usize, values: *mut u64) -> u32;
-        pub fn sparrowpivot_write(records: *const u8, nr: usize, paths: *const u8, np: usize, nodes: *const u8, nn: usize, names: *const u8, nm: usize, options: u32, out: *mut u8, no: usize, values: *mut u64) -> u32;
-        pub fn sparrowpivot_record(records: *const u8, nr: usize, paths: *const u8, np: usize, i: usize, values: *mut u64) -> u32;
-        pub fn sparrowpivot_record_stat(records: *const u8, nr: usize, i: usize, values: *mut u64) -> u32;
-        pub fn sparrowpivot_record_id(records: *const u8, nr: usize, i: usize, out: *mut u8);
-        pub fn sparrowpivot_node(nodes: *const u8, nn: usize, i: usize, values: *mut u64) -> u32;
-        pub fn sparrowpivot_node_id(nodes: *const u8, nn: usize, i: usize, out: *mut u8);
-        pub fn sparrowpivot_lookup(records: *const u8, nr: usize, paths: *const u8, np: usize, key: *const u8, nk: usize, stage: u32, values: *mut u64) -> u32;
-        pub fn sparrowpivot_check_order(records: *const u8, nr: usize, paths: *const u8, np: usize, values: *mut u64) -> u32;
-        pub fn sparrowpivot_eoie(file: *const u8, n: usize, values: *mut u64) -> u32;
-        pub fn sparrowpivot_ieot_count(file: *const u8, n: usize, offset: usize, values: *mut u64) -> u32;
-        pub fn sparrowpivot_ieot_pair(file: *const u8, n: usize, offset: usize, k: usize, values: *mut u64) -> u32;
-        pub fn sparrowpivot_max_entries(size: usize, told: u32, offset: usize, version: u32) -> u64;
-        pub fn sparrowpivot_sha1(bytes: *const u8, n: usize, out: *mut u8);
-    }
-}
-use raw::*;
 
 /// What every lent byte holds before a call, and what stands around every store.
 pub const SENTINEL: u8 = 0xa7;
@@ -51,7 +29,11 @@ impl Store {
         let n = self.all.len();
         let lent = self.lent();
         let same = |s: &[u8]| s.iter().all(|b| *b == SENTINEL);
-        same(&self.all[..FENCE]) && same(&self.all[n - FENCE..]) && lent.len() >= used.len() && &lent[..used.len()] == used && same(&lent[used.len()..])
+        same(&self.all[..FENCE])
+            && same(&self.all[n - FENCE..])
+            && lent.len() >= used.len()
+            && &lent[..used.len()] == used
+            && same(&lent[used.len()..])
     }
 }
 
@@ -62,8 +44,8 @@ impl Values {
     fn new() -> Values {
         Values([UNSET; 10])
     }
-    fn lend(&mut self) -> *mut u64 {
-        self.0[1..].as_mut_ptr()
+    fn lend(&mut self) -> *mut [u64; VALUES] {
+        self.0[1..].as_mut_ptr().cast()
     }
     fn told(&self) -> [u64; 8] {
         assert!(self.0[0] == UNSET && self.0[9] == UNSET, "a number beside the eight lent ones was written");
@@ -81,10 +63,23 @@ pub struct Ours {
 
 /// Reads a file into stores of these sizes, and asks the accessors for what the stores hold then. `entries` is the number of entries to ask for.
 pub fn read(file: &[u8], rooms: Rooms, entries: usize) -> Ours {
-    let (mut records, mut paths, mut nodes) = (Store::new(rooms.records), Store::new(rooms.paths), Store::new(rooms.nodes));
+    let (mut records, mut paths, mut nodes) =
+        (Store::new(rooms.records), Store::new(rooms.paths), Store::new(rooms.nodes));
     let mut values = Values::new();
     let (r, p, n) = (records.lent_mut(), paths.lent_mut(), nodes.lent_mut());
-    let number = unsafe { sparrowpivot_read(file.as_ptr(), file.len(), r.as_mut_ptr(), r.len(), p.as_mut_ptr(), p.len(), n.as_mut_ptr(), n.len(), values.lend()) };
+    let number = unsafe {
+        sparrowpivot_read(
+            file.as_ptr(),
+            file.len(),
+            r.as_mut_ptr(),
+            r.len(),
+            p.as_mut_ptr(),
+            p.len(),
+            n.as_mut_ptr(),
+            n.len(),
+            values.lend(),
+        )
+    };
     let v = values.told();
     let mut reading = Reading::default();
     if number != 0 {
@@ -110,7 +105,19 @@ pub fn read(file: &[u8], rooms: Rooms, entries: usize) -> Ours {
 pub fn entries(file: &[u8], version: u32, count: usize, rooms: Rooms) -> (u32, [u64; 8], Store, Store) {
     let (mut records, mut paths, mut v) = (Store::new(rooms.records), Store::new(rooms.paths), Values::new());
     let (r, p) = (records.lent_mut(), paths.lent_mut());
-    let n = unsafe { sparrowpivot_entries(file.as_ptr(), file.len(), version, count, r.as_mut_ptr(), r.len(), p.as_mut_ptr(), p.len(), v.lend()) };
+    let n = unsafe {
+        sparrowpivot_entries(
+            file.as_ptr(),
+            file.len(),
+            version,
+            count,
+            r.as_mut_ptr(),
+            r.len(),
+            p.as_mut_ptr(),
+            p.len(),
+            v.lend(),
+        )
+    };
     (n, v.told(), records, paths)
 }
 
@@ -118,7 +125,22 @@ pub fn entries(file: &[u8], version: u32, count: usize, rooms: Rooms) -> (u32, [
 pub fn write(l: &Lent, options: u32, room: usize) -> (u32, [u64; 8], Store) {
     let (mut out, mut v) = (Store::new(room), Values::new());
     let (r, p, n, m, o) = (&l.records, &l.paths, &l.nodes, &l.names, out.lent_mut());
-    let number = unsafe { sparrowpivot_write(r.as_ptr(), r.len(), p.as_ptr(), p.len(), n.as_ptr(), n.len(), m.as_ptr(), m.len(), options, o.as_mut_ptr(), o.len(), v.lend()) };
+    let number = unsafe {
+        sparrowpivot_write(
+            r.as_ptr(),
+            r.len(),
+            p.as_ptr(),
+            p.len(),
+            n.as_ptr(),
+            n.len(),
+            m.as_ptr(),
+            m.len(),
+            options,
+            o.as_mut_ptr(),
+            o.len(),
+            v.lend(),
+        )
+    };
     (number, v.told(), out)
 }
 
@@ -128,7 +150,7 @@ fn record(records: &Store, paths: &Store, i: usize) -> Option<Entry> {
     unsafe {
         assert_eq!(sparrowpivot_record(r.as_ptr(), r.len(), p.as_ptr(), p.len(), i, a.lend()), 0);
         assert_eq!(sparrowpivot_record_stat(r.as_ptr(), r.len(), i, b.lend()), 0);
-        sparrowpivot_record_id(r.as_ptr(), r.len(), i, id.as_mut_ptr());
+        sparrowpivot_record_id(r.as_ptr(), r.len(), i, &mut id);
     }
     let (a, b) = (a.told(), b.told());
     if a[5] != 1 || a[6] != 1 || a[2] != a[1] >> 12 & 3 {
@@ -145,7 +167,7 @@ fn node(nodes: &Store, i: usize, file: &[u8]) -> Option<Node> {
     let (mut v, mut id) = (Values::new(), [0u8; 20]);
     unsafe {
         assert_eq!(sparrowpivot_node(n.as_ptr(), n.len(), i, v.lend()), 0);
-        sparrowpivot_node_id(n.as_ptr(), n.len(), i, id.as_mut_ptr());
+        sparrowpivot_node_id(n.as_ptr(), n.len(), i, &mut id);
     }
     let v = v.told();
     let (start, end) = (v[0] as usize, v[1] as usize);
@@ -155,7 +177,7 @@ fn node(nodes: &Store, i: usize, file: &[u8]) -> Option<Node> {
     Some(Node { start, end, count: v[2] as i64, subtrees: v[3], id, parent: v[4] })
 }
 
-/// Of a record and a node that are not there every value is 0.
+/// For a record and a node that are not there, every value is 0.
 pub fn absent_is_zero() -> bool {
     let (r, n) = (vec![SENTINEL; RECORD * 2 - 1], vec![SENTINEL; NODE * 2 - 1]);
     let (mut a, mut b, mut c, mut ids) = (Values::new(), Values::new(), Values::new(), [[SENTINEL; 20]; 2]);
@@ -163,8 +185,8 @@ pub fn absent_is_zero() -> bool {
         sparrowpivot_record(r.as_ptr(), r.len(), r.as_ptr(), r.len(), 1, a.lend());
         sparrowpivot_record_stat(r.as_ptr(), r.len(), 1, b.lend());
         sparrowpivot_node(n.as_ptr(), n.len(), 1, c.lend());
-        sparrowpivot_record_id(r.as_ptr(), r.len(), 1, ids[0].as_mut_ptr());
-        sparrowpivot_node_id(n.as_ptr(), n.len(), 1, ids[1].as_mut_ptr());
+        sparrowpivot_record_id(r.as_ptr(), r.len(), 1, &mut ids[0]);
+        sparrowpivot_node_id(n.as_ptr(), n.len(), 1, &mut ids[1]);
     }
     a.told() == [0; 8] && b.told() == [0; 8] && c.told() == [0; 8] && ids == [[0; 20]; 2]
 }
@@ -172,7 +194,18 @@ pub fn absent_is_zero() -> bool {
 /// The number returned and the eight values.
 pub fn lookup(records: &[u8], paths: &[u8], key: &[u8], stage: u32) -> (u32, [u64; 8]) {
     let mut v = Values::new();
-    let n = unsafe { sparrowpivot_lookup(records.as_ptr(), records.len(), paths.as_ptr(), paths.len(), key.as_ptr(), key.len(), stage, v.lend()) };
+    let n = unsafe {
+        sparrowpivot_lookup(
+            records.as_ptr(),
+            records.len(),
+            paths.as_ptr(),
+            paths.len(),
+            key.as_ptr(),
+            key.len(),
+            stage,
+            v.lend(),
+        )
+    };
     (n, v.told())
 }
 
@@ -212,6 +245,6 @@ pub fn max_entries(size: usize, offset: Option<usize>, version: u32) -> u64 {
 
 pub fn sha1(bytes: &[u8]) -> [u8; 20] {
     let mut out = [0; 20];
-    unsafe { sparrowpivot_sha1(bytes.as_ptr(), bytes.len(), out.as_mut_ptr()) };
+    unsafe { sparrowpivot_sha1(bytes.as_ptr(), bytes.len(), &mut out) };
     out
 }

@@ -1,8 +1,10 @@
 //! Compares the library with the Rust by running; `compare/run` builds and starts it.
 //!     compare [--oracle PROGRAM] [--answers FILE] [--differences FILE] [--git FOLDER] [--seed N] [--long] [--hostile [--rounds N]] [--self-test] [--make-answers]
 //! Every answer is compared twice: with document 01's rules, written once more in model.rs, answer, values and every byte lent; and with the Rust. Where the two
-//! part, a row of docs/DIFFERENCES.md has to say so, and what the Rust then answers; all else is a failure, printed with its input.
+//! differ, a row of docs/DIFFERENCES.md has to say so, and what the Rust then answers; all else is a failure, printed with its input.
 mod cases;
+#[path = "../host/src/declarations.rs"]
+mod declarations;
 mod documented;
 mod generate;
 mod hostile;
@@ -36,7 +38,19 @@ struct Options {
 }
 
 fn options() -> Options {
-    let mut o = Options { oracle: Oracle(None), answers: None, differences: None, git: None, seed: 1, times: 1, self_test: false, make_answers: false, hostile: false, turn: None, rounds: 500_000 };
+    let mut o = Options {
+        oracle: Oracle(None),
+        answers: None,
+        differences: None,
+        git: None,
+        seed: 1,
+        times: 1,
+        self_test: false,
+        make_answers: false,
+        hostile: false,
+        turn: None,
+        rounds: 500_000,
+    };
     let mut a = std::env::args().skip(1);
     let mut next = |w: &str| a.next().map(|x| if x.is_empty() { panic!("{w} wants a value") } else { x });
     while let Some(w) = next("") {
@@ -76,14 +90,19 @@ fn documented(j: &mut Judge, oracle: &Oracle) -> usize {
         let mut one = Judge::new(Plant::Nothing);
         one.judge(case, Some(said));
         if one.rows.keys().copied().collect::<Vec<_>>() != row.iter().copied().collect::<Vec<_>>() {
-            j.fail(&format!("{name} of docs/DIFFERENCES.md"), &case.line(), &format!("{:?}", one.rows), &format!("{row:?}"));
+            j.fail(
+                &format!("{name} of docs/DIFFERENCES.md"),
+                &case.line(),
+                &format!("{:?}", one.rows),
+                &format!("{row:?}"),
+            );
         }
         j.add(one);
     }
     all.len()
 }
 
-/// a. Generated files, each also asked for EOIE, and for IEOT behind the header.
+/// a. Generated files, each also asked for EOIE, and for IEOT after the header.
 fn files(j: &mut Judge, parts: &mut Judge, oracle: &Oracle, seed: u64, n: usize) {
     let mut r = Rng::new(seed);
     for some in (0..n).collect::<Vec<_>>().chunks(4000) {
@@ -91,7 +110,14 @@ fn files(j: &mut Judge, parts: &mut Judge, oracle: &Oracle, seed: u64, n: usize)
         run(j, oracle, &files.iter().cloned().map(Case::File).collect::<Vec<_>>());
         // the oracle wants at least a byte
         let few = files.iter().filter(|s| !s.is_empty() && s.len() < 2000);
-        run(parts, oracle, &few.flat_map(|s| [Case::Eoie(s.clone()), Case::Ieot(s[model::eoie(s).unwrap_or(12).min(s.len())..].to_vec())]).collect::<Vec<_>>());
+        run(
+            parts,
+            oracle,
+            &few.flat_map(|s| {
+                [Case::Eoie(s.clone()), Case::Ieot(s[model::eoie(s).unwrap_or(12).min(s.len())..].to_vec())]
+            })
+            .collect::<Vec<_>>(),
+        );
     }
 }
 
@@ -133,7 +159,11 @@ fn written(j: &mut Judge, oracle: &Oracle, seed: u64, n: usize) {
         let all: Vec<Table> = some.iter().map(|_| Table::generated(&mut r)).collect();
         all.iter().for_each(|t| j.write_faults(&mut r, t));
         let again = |t: &&Table| t.entries.len() % 8 == 3 || t.entries.iter().any(|e| e.path.len() >= 4095);
-        let files: Vec<Case> = all.iter().filter(again).filter_map(|t| Some(Case::Own(writing::ours(&t.lent(), t.asked()).ok()?.1))).collect();
+        let files: Vec<Case> = all
+            .iter()
+            .filter(again)
+            .filter_map(|t| Some(Case::Own(writing::ours(&t.lent(), t.asked()).ok()?.1)))
+            .collect();
         run(j, oracle, &all.into_iter().map(Case::Write).collect::<Vec<_>>());
         run(j, oracle, &files);
     }
@@ -164,7 +194,12 @@ fn offset_tables(j: &mut Judge, oracle: &Oracle) {
     for version in [0u32, 1, 2, 256, 1 << 24] {
         for n in 0..50usize {
             let body = [version.to_be_bytes().as_slice(), &(0..n as u8).collect::<Vec<_>>()].concat();
-            for e in [extension(b"IEOT", &body), [extension(b"IEOT", &[]), extension(b"IEOT", &body)].concat(), [extension(b"link", b"x"), extension(b"IEOT", &body)].concat(), [extension(b"IEOU", b""), extension(b"IEOT", &body), extension(b"IEOT", &[0, 0, 0, 1])].concat()] {
+            for e in [
+                extension(b"IEOT", &body),
+                [extension(b"IEOT", &[]), extension(b"IEOT", &body)].concat(),
+                [extension(b"link", b"x"), extension(b"IEOT", &body)].concat(),
+                [extension(b"IEOU", b""), extension(b"IEOT", &body), extension(b"IEOT", &[0, 0, 0, 1])].concat(),
+            ] {
                 cases.push(Case::Ieot([e.as_slice(), &trailer].concat()));
                 // one byte too few and too many
                 cases.push(Case::Ieot([&e[..e.len() - 1], &trailer].concat()));
@@ -216,7 +251,8 @@ fn with_tree(body: &[u8]) -> Case {
 
 /// Every body of up to five of these words, every body of six of these bytes that begins with a NUL, and generated ones.
 fn tree_bodies(j: &mut Judge, oracle: &Oracle, seed: u64, times: usize) {
-    let words: [&[u8]; 10] = [b"\0", b" ", b"\n", b"-1", b"0", b"1", b"a", b"+", b"\0-1 0\n", b"\x010123456789012345678"];
+    let words: [&[u8]; 10] =
+        [b"\0", b" ", b"\n", b"-1", b"0", b"1", b"a", b"+", b"\0-1 0\n", b"\x010123456789012345678"];
     let mut bodies: Vec<Vec<u8>> = vec![vec![]];
     let mut all = bodies.clone();
     for _ in 0..5 {
@@ -265,7 +301,10 @@ fn numbers(j: &mut Judge, oracle: &Oracle, seed: u64) {
 
 /// d. Indexes of the installed git: FOLDER/data/NAME is the index, FOLDER/list/NAME what `git ls-files --sparse --stage -z` prints.
 fn installed_git(j: &mut Judge, oracle: &Oracle, folder: &str) -> usize {
-    let mut names: Vec<String> = std::fs::read_dir(format!("{folder}/data")).unwrap().map(|e| e.unwrap().file_name().into_string().unwrap()).collect();
+    let mut names: Vec<String> = std::fs::read_dir(format!("{folder}/data"))
+        .unwrap()
+        .map(|e| e.unwrap().file_name().into_string().unwrap())
+        .collect();
     names.sort();
     for name in &names {
         let file = std::fs::read(format!("{folder}/data/{name}")).unwrap();
@@ -279,13 +318,25 @@ fn installed_git(j: &mut Judge, oracle: &Oracle, folder: &str) -> usize {
             text.push(0);
         }
         if ours.refused.is_some() || text != listed {
-            j.fail(&format!("git's listing of {name}"), "see the folder's data", &format!("{:?} {}", ours.refused, String::from_utf8_lossy(&text[..text.len().min(300)])), &String::from_utf8_lossy(&listed[..listed.len().min(300)]));
+            j.fail(
+                &format!("git's listing of {name}"),
+                "see the folder's data",
+                &format!("{:?} {}", ours.refused, String::from_utf8_lossy(&text[..text.len().min(300)])),
+                &String::from_utf8_lossy(&listed[..listed.len().min(300)]),
+            );
         } else {
             j.alike += 1;
         }
         let from = library::eoie(&file);
         let pairs = from.and_then(|o| library::ieot(&file, o as usize)).map_or(0, |p| p.len());
-        println!("    {name}: version {}, {} entries, {} nodes, {}{}{pairs} pairs of IEOT", ours.version, ours.entries.len(), ours.nodes.len(), if ours.sparse { "sparse, " } else { "" }, if from.is_some() { "EOIE, " } else { "" });
+        println!(
+            "    {name}: version {}, {} entries, {} nodes, {}{}{pairs} pairs of IEOT",
+            ours.version,
+            ours.entries.len(),
+            ours.nodes.len(),
+            if ours.sparse { "sparse, " } else { "" },
+            if from.is_some() { "EOIE, " } else { "" }
+        );
         written_again(j, folder, name, &file, &listed);
         run(j, oracle, &[Case::File(file.clone()), Case::Eoie(file)]);
     }
@@ -301,7 +352,17 @@ fn git_lists(folder: &str, index: &str, sparse: bool, more: &[&str]) -> Vec<u8> 
     git.env("GIT_CONFIG_GLOBAL", "/dev/null").env("GIT_CONFIG_NOSYSTEM", "1").env("LC_ALL", "C");
     git.env("GIT_INDEX_FILE", std::fs::canonicalize(index).unwrap());
     // with more than one thread git looks at EOIE
-    git.args(["-C", &format!("{folder}/{}", if sparse { "sparse" } else { "plain" }), "-c", "index.threads=4", "ls-files", "--sparse", "--stage", "-z"]).args(more);
+    git.args([
+        "-C",
+        &format!("{folder}/{}", if sparse { "sparse" } else { "plain" }),
+        "-c",
+        "index.threads=4",
+        "ls-files",
+        "--sparse",
+        "--stage",
+        "-z",
+    ])
+    .args(more);
     let out = git.output().expect("git runs");
     if !out.status.success() {
         return [b"git refuses: ".as_slice(), &out.stderr].concat();
@@ -313,7 +374,12 @@ fn git_lists(folder: &str, index: &str, sparse: bool, more: &[&str]) -> Vec<u8> 
 fn written_again(j: &mut Judge, folder: &str, name: &str, file: &[u8], listed: &[u8]) {
     let need = cases::needed(&model::ours(file, model::ALL));
     let read = library::read(file, need, 0);
-    let lent = Lent { records: read.records.lent().to_vec(), paths: read.paths.lent().to_vec(), nodes: read.nodes.lent().to_vec(), names: file.to_vec() };
+    let lent = Lent {
+        records: read.records.lent().to_vec(),
+        paths: read.paths.lent().to_vec(),
+        nodes: read.nodes.lent().to_vec(),
+        names: file.to_vec(),
+    };
     let sparse = read.reading.sparse;
     let before = git_lists(folder, &format!("{folder}/data/{name}"), sparse, &["--debug"]);
     for (tree, eoie) in [(false, false), (false, true), (true, false), (true, true)] {
@@ -330,7 +396,12 @@ fn written_again(j: &mut Judge, folder: &str, name: &str, file: &[u8], listed: &
         if now != listed || debug != before {
             let (ours, wanted) = if now != listed { (&now, listed) } else { (&debug, &before[..]) };
             let short = |s: &[u8]| String::from_utf8_lossy(&s[..s.len().min(300)]).into_owned();
-            j.fail(&format!("git's listing of {name}, written with {asked:?}"), "see the folder's data", &short(ours), &short(wanted));
+            j.fail(
+                &format!("git's listing of {name}, written with {asked:?}"),
+                "see the folder's data",
+                &short(ours),
+                &short(wanted),
+            );
             continue;
         }
         j.alike += 1;
@@ -359,7 +430,11 @@ fn sizes(j: &mut Judge, seed: u64, n: usize) -> usize {
 
 /// f. The kept answers: one question a line, `=`, and what the oracle answered.
 fn replay(j: &mut Judge, oracle: &Oracle, list: &str) -> usize {
-    let lines: Vec<(&str, &str)> = list.lines().filter(|l| !l.starts_with('#')).map(|l| l.split_once(" = ").expect("a question and its answer")).collect();
+    let lines: Vec<(&str, &str)> = list
+        .lines()
+        .filter(|l| !l.starts_with('#'))
+        .map(|l| l.split_once(" = ").expect("a question and its answer"))
+        .collect();
     for (question, answer) in &lines {
         j.judge(&Case::of_line(question), Some(answer));
     }
@@ -377,10 +452,17 @@ fn replay(j: &mut Judge, oracle: &Oracle, list: &str) -> usize {
 /// Prints the list of answers: short questions, as many of each class and each row as the number below says.
 fn make_answers(oracle: &Oracle, seed: u64) {
     let mut r = Rng::new(seed);
-    let files: Vec<Case> = (0..8000).map(|_| Case::File(generate::file(&mut r))).filter(|c| c.line().len() < 440).collect();
+    let files: Vec<Case> =
+        (0..8000).map(|_| Case::File(generate::file(&mut r))).filter(|c| c.line().len() < 440).collect();
     let mut cases: Vec<Case> = documented::all().into_iter().map(|c| c.1).collect();
     cases.extend(files.iter().cloned());
-    cases.extend(files.into_iter().take(400).filter_map(|c| if let Case::File(s) = c { Some(Case::Eoie(s)) } else { None }));
+    cases.extend(files.into_iter().take(400).filter_map(|c| {
+        if let Case::File(s) = c {
+            Some(Case::Eoie(s))
+        } else {
+            None
+        }
+    }));
     for _ in 0..60 {
         cases.push(Case::Ieot([extension(b"IEOT", &generate::ieot(&mut r)), vec![0; 20]].concat()));
         let t = generate::table(&mut r);
@@ -412,7 +494,8 @@ fn make_answers(oracle: &Oracle, seed: u64) {
 
 /// Every planted fault must be caught, and nothing where none is planted.
 fn self_test(o: &Options, list: &str) -> bool {
-    let mut plants = vec![Plant::Nothing, Plant::Input, Plant::Answer, Plant::Record, Plant::Beyond, Plant::Number, Plant::Written];
+    let mut plants =
+        vec![Plant::Nothing, Plant::Input, Plant::Answer, Plant::Record, Plant::Beyond, Plant::Number, Plant::Written];
     plants.extend(model::ROWS.iter().map(|r| Plant::Forgotten(r.0)));
     let mut good = true;
     for plant in plants {
@@ -423,12 +506,19 @@ fn self_test(o: &Options, list: &str) -> bool {
             files(&mut j, &mut other, &o.oracle, o.seed, 1000);
             tables(&mut other, &o.oracle, o.seed, 500);
             written(&mut other, &o.oracle, o.seed, 500);
-            let both = plant == Plant::Nothing || matches!(plant, Plant::Input | Plant::Record | Plant::Beyond | Plant::Forgotten(_)) || other.failures > 0;
+            let both = plant == Plant::Nothing
+                || matches!(plant, Plant::Input | Plant::Record | Plant::Beyond | Plant::Forgotten(_))
+                || other.failures > 0;
             good &= both;
             j.failures += other.failures;
         }
         let right = (j.failures > 0) == (plant != Plant::Nothing);
-        println!("{}: {plant:?} planted, {} failures over {n} kept answers{}", if right { "as it should be" } else { "NOT AS IT SHOULD BE" }, j.failures, if o.oracle.is_there() { " and 1000 files" } else { "" });
+        println!(
+            "{}: {plant:?} planted, {} failures over {n} kept answers{}",
+            if right { "as it should be" } else { "NOT AS IT SHOULD BE" },
+            j.failures,
+            if o.oracle.is_there() { " and 1000 files" } else { "" }
+        );
         good &= right;
     }
     good
@@ -440,7 +530,10 @@ fn not_listed(j: &Judge, list: &str) -> usize {
     for (row, name) in model::ROWS {
         let label = name.split(' ').next().unwrap();
         if j.rows.contains_key(&row) && !list.lines().any(|l| l.starts_with(&format!("| {label}"))) {
-            println!("FAILED {} differences under {label}, which docs/DIFFERENCES.md does not list: {name}", j.rows[&row]);
+            println!(
+                "FAILED {} differences under {label}, which docs/DIFFERENCES.md does not list: {name}",
+                j.rows[&row]
+            );
             documented::all().iter().filter(|c| c.2 == Some(row)).for_each(|c| println!("  input  {}", c.1.line()));
             n += j.rows[&row];
         }
@@ -508,6 +601,13 @@ fn main() {
     if o.hostile {
         failures += hostile::run(o.seed, o.rounds);
     }
-    println!("{}", if failures == 0 { "comparison by running: no unknown difference".to_string() } else { format!("comparison by running FAILED: {failures} failures") });
+    println!(
+        "{}",
+        if failures == 0 {
+            "comparison by running: no unknown difference".to_string()
+        } else {
+            format!("comparison by running FAILED: {failures} failures")
+        }
+    );
     std::process::exit((failures > 0) as i32);
 }

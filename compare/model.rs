@@ -1,8 +1,8 @@
 //! Document 01's reader once more, plainly, with the rows of docs/DIFFERENCES.md as switches: without them it says what the library must answer and leave in its
-//! stores, with them what the Rust answers. So a difference is known only if a rule says both sides of it.
+//! stores, with them what the Rust answers. So a difference is known only if a rule gives both sides of it.
 
-pub const RECORD: usize = 96;
-pub const NODE: usize = 72;
+pub use crate::declarations::{NODE_SIZE as NODE, RECORD_SIZE as RECORD};
+
 const TRAILER: usize = 20;
 const HEADER: usize = 12;
 const DEPTH: usize = 64;
@@ -124,7 +124,7 @@ pub fn rust(file: &[u8]) -> Run {
     run(file, true, ALL)
 }
 
-/// What `sparrowpivot_entries` must answer of a file's entries alone: the run, and where the entries end.
+/// What `sparrowpivot_entries` must answer for a file's entries alone: the run, and where the entries end.
 pub fn entries(file: &[u8], version: u32, count: usize, rooms: Rooms) -> (Run, usize) {
     let mut w = Walk { file, rust: false, rooms, run: Run::default() };
     let next = w.entries(version, count).unwrap_or(0);
@@ -217,7 +217,8 @@ impl Walk<'_> {
         if !has(at, 62) {
             return None;
         }
-        let fields: [u32; 10] = std::array::from_fn(|i| word(s, at + 4 * i) & if i == 6 { MODE_BITS } else { u32::MAX });
+        let fields: [u32; 10] =
+            std::array::from_fn(|i| word(s, at + 4 * i) & if i == 6 { MODE_BITS } else { u32::MAX });
         let bits = u16::from_be_bytes([s[at + 60], s[at + 61]]) as u32;
         let (mut flags, mut here) = (bits & 0xf000, at + 62);
         if bits & 0x4000 != 0 {
@@ -231,7 +232,13 @@ impl Walk<'_> {
             flags |= more << 16;
             here += 2;
         }
-        let nul = |from: usize, rust: bool| if rust && end - from < 2 { None } else { s[from..end].iter().position(|b| *b == 0).map(|i| from + i) };
+        let nul = |from: usize, rust: bool| {
+            if rust && end - from < 2 {
+                None
+            } else {
+                s[from..end].iter().position(|b| *b == 0).map(|i| from + i)
+            }
+        };
         let (path, next) = if version == 4 {
             let (strip, from) = self.number(here, end)?;
             let mut path = match self.run.reading.entries.last() {
@@ -312,7 +319,9 @@ impl Walk<'_> {
                 b"EOIE" => self.run.eoie = true,
                 b"IEOT" => self.run.ieot = true,
                 b"sdir" if size == 0 => self.run.reading.sparse = true,
-                _ if signature[0].is_ascii_lowercase() => return self.refuse(8, word(s, at) as u64, mandatory(word(s, at))),
+                _ if signature[0].is_ascii_lowercase() => {
+                    return self.refuse(8, word(s, at) as u64, mandatory(word(s, at)))
+                }
                 _ => {}
             }
             at = body + size;
@@ -378,7 +387,11 @@ impl Walk<'_> {
             let c = &self.run.reading.nodes[child];
             twice |= !names.insert(s[c.start..c.end].to_vec());
         }
-        if twice { Err(None) } else { Ok(here) }
+        if twice {
+            Err(None)
+        } else {
+            Ok(here)
+        }
     }
 }
 
@@ -386,7 +399,13 @@ fn unsigned(s: &[u8], most: i128) -> Option<i128> {
     if s.is_empty() {
         return None;
     }
-    s.iter().try_fold(0i128, |v, d| if d.is_ascii_digit() { Some(v * 10 + (d - b'0') as i128).filter(|v| *v <= most) } else { None })
+    s.iter().try_fold(0i128, |v, d| {
+        if d.is_ascii_digit() {
+            Some(v * 10 + (d - b'0') as i128).filter(|v| *v <= most)
+        } else {
+            None
+        }
+    })
 }
 
 fn signed(s: &[u8]) -> Option<i64> {
@@ -398,7 +417,11 @@ fn signed(s: &[u8]) -> Option<i64> {
 }
 
 fn mandatory(signature: u32) -> String {
-    if &signature.to_be_bytes() == b"link" { "err link".into() } else { format!("err mandatory {signature:08x}") }
+    if &signature.to_be_bytes() == b"link" {
+        "err link".into()
+    } else {
+        format!("err mandatory {signature:08x}")
+    }
 }
 
 /// The nodes in the order in which the Rust prints them: siblings by name.
@@ -494,7 +517,24 @@ pub fn line(r: &Reading, file: &[u8], order: &[usize]) -> String {
     let mut o = format!("ok {} sparse={} entries={} paths={}", r.version, r.sparse, r.entries.len(), r.path_bytes);
     for e in &r.entries {
         let f = &e.fields;
-        write!(o, "|E {} {} {} {} {} {} {:o} {} {} {} {} {:x} {}", f[0], f[1], f[2], f[3], f[4], f[5], f[6], f[7], f[8], f[9], hex(&e.id), e.flags, hex(&e.path)).unwrap();
+        write!(
+            o,
+            "|E {} {} {} {} {} {} {:o} {} {} {} {} {:x} {}",
+            f[0],
+            f[1],
+            f[2],
+            f[3],
+            f[4],
+            f[5],
+            f[6],
+            f[7],
+            f[8],
+            f[9],
+            hex(&e.id),
+            e.flags,
+            hex(&e.path)
+        )
+        .unwrap();
     }
     let mut depth = vec![1; r.nodes.len()];
     for &i in order {
@@ -528,7 +568,9 @@ pub fn stores(r: &Reading, rooms: Rooms) -> [Vec<u8>; 3] {
         Nodes::Zeroed => nodes = vec![0; rooms.nodes],
         Nodes::Filled => {
             for n in &r.nodes {
-                [n.start as u64, n.end as u64, n.count as u64, n.subtrees, n.parent].iter().for_each(|v| nodes.extend(v.to_be_bytes()));
+                [n.start as u64, n.end as u64, n.count as u64, n.subtrees, n.parent]
+                    .iter()
+                    .for_each(|v| nodes.extend(v.to_be_bytes()));
                 nodes.extend(n.id);
                 nodes.extend([0; 12]);
             }

@@ -10,7 +10,12 @@ impl Oracle {
     }
     /// One answer for every line.
     pub fn ask(&self, lines: &[String]) -> Vec<String> {
-        let mut child: Child = Command::new(self.0.as_ref().unwrap()).arg("batch").stdin(Stdio::piped()).stdout(Stdio::piped()).spawn().expect("the oracle runs");
+        let mut child: Child = Command::new(self.0.as_ref().unwrap())
+            .arg("batch")
+            .stdin(Stdio::piped())
+            .stdout(Stdio::piped())
+            .spawn()
+            .expect("the oracle runs");
         let mut into = BufWriter::with_capacity(1 << 20, child.stdin.take().unwrap());
         let from = BufReader::with_capacity(1 << 20, child.stdout.take().unwrap());
         let answers: Vec<String> = std::thread::scope(|s| {

@@ -19,10 +19,21 @@ pub struct Table {
 impl Table {
     pub fn generated(r: &mut Rng) -> Table {
         let odd = r.one_in(3);
-        Table { entries: generate::written_table(r), word: r.pick(&WORDS), sparse: r.one_in(3), tree: r.one_in(2).then(|| generate::tree(r, odd)) }
+        Table {
+            entries: generate::written_table(r),
+            word: r.pick(&WORDS),
+            sparse: r.one_in(3),
+            tree: r.one_in(2).then(|| generate::tree(r, odd)),
+        }
     }
     pub fn line(&self) -> String {
-        format!("twrite {} {} {} {}", self.word, self.sparse as u8, self.tree.as_ref().map_or("-".into(), |b| hex(b)), table_text(&self.entries))
+        format!(
+            "twrite {} {} {} {}",
+            self.word,
+            self.sparse as u8,
+            self.tree.as_ref().map_or("-".into(), |b| hex(b)),
+            table_text(&self.entries)
+        )
     }
     pub fn of_words(w: &[&str]) -> Table {
         let word = WORDS.into_iter().find(|x| *x == w[1]).expect("one of the oracle's words");
@@ -38,7 +49,13 @@ impl Table {
     }
     pub fn asked(&self) -> Asked {
         let is = |words: &[&str]| words.contains(&self.word);
-        Asked { given: self.nodes().is_some(), tree: is(&["all", "tree", "both"]), eoie: is(&["all", "eoie", "both"]), sparse: self.sparse, unhashed: false }
+        Asked {
+            given: self.nodes().is_some(),
+            tree: is(&["all", "tree", "both"]),
+            eoie: is(&["all", "eoie", "both"]),
+            sparse: self.sparse,
+            unhashed: false,
+        }
     }
     /// What reading the written file must show: the records that stay, with the bits that are kept.
     fn kept(&self) -> Vec<Entry> {
@@ -114,7 +131,9 @@ impl Judge {
         let none = vec![];
         let (wanted, bytes) = match rule {
             Err((number, value)) => ((*number, [*value, 0, 0, 0, 0, 0, 0, 0]), &none),
-            Ok((version, file)) if file.len() <= room => ((0, [*version as u64, file.len() as u64, 0, 0, 0, 0, 0, 0]), file),
+            Ok((version, file)) if file.len() <= room => {
+                ((0, [*version as u64, file.len() as u64, 0, 0, 0, 0, 0, 0]), file)
+            }
             Ok((_, file)) => ((14, [file.len() as u64, 0, 0, 0, 0, 0, 0, 0]), &none),
         };
         let (number, mut v, mut out) = library::write(l, a.number() | high, room);
@@ -128,7 +147,12 @@ impl Judge {
         let good = (number, v) == wanted && out.is(bytes);
         if !good {
             let wanted = format!("{wanted:?} {}", hex(bytes));
-            self.fail(&format!("the writer against the rules of 01, {a:?}, {room} bytes lent"), &l.text(), &format!("{:?} {}", (number, v), hex(out.lent())), &wanted);
+            self.fail(
+                &format!("the writer against the rules of 01, {a:?}, {room} bytes lent"),
+                &l.text(),
+                &format!("{:?} {}", (number, v), hex(out.lent())),
+                &wanted,
+            );
         }
         good
     }
@@ -138,9 +162,18 @@ impl Judge {
         let back = library::read(file, need, 0).reading;
         let wanted = t.kept();
         let sparse = t.sparse || wanted.iter().any(|e| e.fields[6] == 0o40000);
-        let good = back.refused.is_none() && back.version == *version && back.entries == wanted && back.tree == (t.asked().given && t.asked().tree) && back.sparse == sparse;
+        let good = back.refused.is_none()
+            && back.version == *version
+            && back.entries == wanted
+            && back.tree == (t.asked().given && t.asked().tree)
+            && back.sparse == sparse;
         if !good {
-            self.fail("a written file read back", &t.line(), &format!("{:?} {:?}", back.refused, back.entries), &format!("{wanted:?}"));
+            self.fail(
+                "a written file read back",
+                &t.line(),
+                &format!("{:?} {:?}", back.refused, back.entries),
+                &format!("{wanted:?}"),
+            );
         }
         good
     }

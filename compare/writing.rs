@@ -13,7 +13,11 @@ pub struct Asked {
 
 impl Asked {
     pub fn number(self) -> u32 {
-        [self.given, self.tree, self.eoie, self.sparse, self.unhashed].iter().enumerate().map(|(i, b)| (*b as u32) << i).sum()
+        [self.given, self.tree, self.eoie, self.sparse, self.unhashed]
+            .iter()
+            .enumerate()
+            .map(|(i, b)| (*b as u32) << i)
+            .sum()
     }
     pub fn of(n: u32) -> Asked {
         let bit = |i: u32| n >> i & 1 == 1;
@@ -35,7 +39,13 @@ pub struct Lent {
 
 impl Lent {
     pub fn text(&self) -> String {
-        format!("records {} paths {} nodes {} names {}", hex(&self.records), hex(&self.paths), hex(&self.nodes), hex(&self.names))
+        format!(
+            "records {} paths {} nodes {} names {}",
+            hex(&self.records),
+            hex(&self.paths),
+            hex(&self.nodes),
+            hex(&self.names)
+        )
     }
 }
 
@@ -81,7 +91,17 @@ fn proper(l: &Lent, deepest: usize) -> Option<Vec<(Node, Vec<usize>)>> {
         if i > 0 {
             all[parent as usize].1.push(i);
         }
-        all.push((Node { start: start as usize, end: end as usize, count: count as i64, subtrees, id: n[40..60].try_into().unwrap(), parent }, vec![]));
+        all.push((
+            Node {
+                start: start as usize,
+                end: end as usize,
+                count: count as i64,
+                subtrees,
+                id: n[40..60].try_into().unwrap(),
+                parent,
+            },
+            vec![],
+        ));
     }
     let name = |all: &[(Node, Vec<usize>)], i: usize| l.names[all[i].0.start..all[i].0.end].to_vec();
     for i in 0..all.len() {
@@ -137,7 +157,12 @@ fn write(l: &Lent, a: Asked, deepest: usize) -> Written {
         body = Some(b);
     }
     let heads = body.iter().map(|b| 8 + b.len()).sum::<usize>() + 8 * a.sparse as usize;
-    let size: usize = kept.iter().map(|k| (62 + 2 * (word(records[*k], 72) & EXTENDED != 0) as usize + path_of(l, *k).unwrap().len() + 8) / 8 * 8).sum();
+    let size: usize = kept
+        .iter()
+        .map(|k| {
+            (62 + 2 * (word(records[*k], 72) & EXTENDED != 0) as usize + path_of(l, *k).unwrap().len() + 8) / 8 * 8
+        })
+        .sum();
     if 12 + size + heads > u32::MAX as usize {
         return Err((15, 0));
     }
@@ -168,7 +193,8 @@ pub fn is_written(file: &[u8]) -> bool {
 
 /// A node table of these nodes.
 pub fn node_table(nodes: &[Node]) -> Vec<u8> {
-    let [_, _, table] = model::stores(&Reading { nodes: nodes.to_vec(), node_store: Nodes::Filled, ..Reading::default() }, model::ALL);
+    let [_, _, table] =
+        model::stores(&Reading { nodes: nodes.to_vec(), node_store: Nodes::Filled, ..Reading::default() }, model::ALL);
     table
 }
 
@@ -181,6 +207,9 @@ pub fn by_level(nodes: &[Node]) -> Vec<Node> {
     order.sort_by_key(|i| (depth[*i], std::cmp::Reverse(*i)));
     let mut place = vec![0; nodes.len()];
     order.iter().enumerate().for_each(|(k, i)| place[*i] = k as u64);
-    let moved = |i: &usize| Node { parent: if *i == 0 { u64::MAX } else { place[nodes[*i].parent as usize] }, ..nodes[*i].clone() };
+    let moved = |i: &usize| Node {
+        parent: if *i == 0 { u64::MAX } else { place[nodes[*i].parent as usize] },
+        ..nodes[*i].clone()
+    };
     order.iter().map(moved).collect()
 }

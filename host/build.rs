@@ -1,8 +1,8 @@
 //! Finds the static library, or has it built: `SPARROWPIVOT_LIB_DIR` names the folder of an archive that is there
-//! already; without it `rt`, Rattle's command, proves and builds it from the crates of this repository.
+//! already; without it the script `library` beside this file has `rt`, Rattle's command, prove and build it from the
+//! crates of this repository.
 use std::path::{Path, PathBuf};
 use std::process::{exit, Command};
-use std::time::SystemTime;
 
 const ARCHIVE: &str = "libsparrowpivot.a";
 
@@ -32,54 +32,29 @@ fn given_folder(folder: PathBuf) -> PathBuf {
     folder
 }
 
-/// The folder in which `rt` puts the archive. One that is newer than all it is made of is taken as it is.
+/// The folder in which the script puts the archive. One that was built of the present sources is taken as it is.
 fn built_folder() -> PathBuf {
-    if !target_is("ARCH", "x86_64") || !target_is("OS", "linux") {
+    if !target_is("ARCH", std::env::consts::ARCH) || !target_is("OS", "linux") {
         fail(
-            "the static library that `rt` builds links into programs for x86-64 Linux only; \
-             SPARROWPIVOT_LIB_DIR may name the folder of one that was made for another machine",
+            "the static library is built for the machine at hand, and for Linux; SPARROWPIVOT_LIB_DIR may name the \
+             folder of one for another machine (`rt staticlib sparrowpivot` makes one for x86-64 Linux)",
         );
     }
-    let Some(repository) = Path::new(env!("CARGO_MANIFEST_DIR")).parent() else {
-        fail("host/ stands in no folder");
-    };
-    let parts = ["crates", "crates.txt"].map(|part| repository.join(part));
-    for part in &parts {
-        println!("cargo:rerun-if-changed={}", part.display());
+    let host = Path::new(env!("CARGO_MANIFEST_DIR"));
+    for part in ["library", "../crates", "../crates.txt"] {
+        println!("cargo:rerun-if-changed={}", host.join(part).display());
     }
-    let folder = repository.join("target/staticlib");
-    let archive = folder.join(ARCHIVE).metadata().and_then(|archive| archive.modified());
-    if archive.is_ok_and(|made| parts.iter().all(|part| is_older(part, made))) {
-        return folder;
+    let said = Command::new("sh").arg(host.join("library")).output();
+    let said = said.unwrap_or_else(|why| fail(&format!("host/library cannot be run: {why}")));
+    if !said.status.success() {
+        fail(&format!(
+            "the static library could not be built:\n{}\
+             SPARROWPIVOT_LIB_DIR may name the folder of a {ARCHIVE} that is there already",
+            String::from_utf8_lossy(&said.stderr)
+        ));
     }
-    // the first proves what is not proved yet, several crates at a time
-    for verb in ["check", "staticlib"] {
-        rt(repository, &[verb, "sparrowpivot"]).unwrap_or_else(|why| fail(&why));
-    }
-    folder
-}
-
-/// Whether a file, or a folder with all that is in it, was last changed before a time.
-fn is_older(path: &Path, than: SystemTime) -> bool {
-    let changed = path.metadata().and_then(|part| part.modified());
-    let in_folder =
-        || path.read_dir().is_ok_and(|mut all| all.all(|one| one.is_ok_and(|one| is_older(&one.path(), than))));
-    changed.is_ok_and(|changed| changed < than) && (!path.is_dir() || in_folder())
-}
-
-/// Runs `rt` with these words. The error says what is missing, or what `rt` said.
-fn rt(repository: &Path, words: &[&str]) -> Result<(), String> {
-    let said = Command::new("rt").args(words).current_dir(repository).output().map_err(|why| {
-        format!(
-            "the static library has to be built, and `rt` cannot be run ({why}).\n\
-             Either put Rattle's command `rt` on the PATH, or set SPARROWPIVOT_LIB_DIR to the folder of {ARCHIVE}"
-        )
-    })?;
-    if said.status.success() {
-        return Ok(());
-    }
-    let (out, err) = (String::from_utf8_lossy(&said.stdout), String::from_utf8_lossy(&said.stderr));
-    Err(format!("`rt {}` failed ({}):\n{out}{err}", words.join(" "), said.status))
+    let folder = String::from_utf8(said.stdout).unwrap_or_else(|_| fail("the folder's name is not UTF-8"));
+    PathBuf::from(folder.trim_end())
 }
 
 fn fail(why: &str) -> ! {

@@ -5,11 +5,11 @@
  * lent, keeps no pointer and no state, and never allocates. No two slices of a call may overlap if one of them is written.
  *
  * Stores. Records, paths and nodes are bytes in memory of the caller's, of any alignment. A record takes SPARROWPIVOT_RECORD_SIZE bytes and a node
- * SPARROWPIVOT_NODE_SIZE; what they hold is asked for by the functions below. Bytes behind the last whole record or node are no record and no node. A table is the
+ * SPARROWPIVOT_NODE_SIZE; the functions below tell what they hold. Bytes after the last whole record or node belong to none. A table is the
  * whole slice lent: after reading n records lend n * SPARROWPIVOT_RECORD_SIZE bytes of the store.
  *
  * Answers. `values` are eight numbers of 64 bits; all eight are always written, and those that no comment names are 0. "0 or 1" is no or yes. A function that
- * returns uint32_t returns 0 where it is done and else a number of `enum sparrowpivot_refusal`.
+ * returns uint32_t returns 0 on success, and otherwise a number of `enum sparrowpivot_refusal`.
  */
 #ifndef SPARROWPIVOT_H
 #define SPARROWPIVOT_H
@@ -30,7 +30,7 @@ extern "C" {
 /* A count of -1 (a node out of date), and the parent of the root. */
 #define SPARROWPIVOT_MINUS_ONE UINT64_MAX
 
-/* The refusals. What each carries is values[0], which is 0 where nothing is named. */
+/* The refusals. What each carries is values[0]; it is 0 where no value is named. */
 enum sparrowpivot_refusal {
     /* Reading. 1 to 4 leave every store as it was. */
     SPARROWPIVOT_SHORT_FILE = 1,     /* under 32 bytes */
@@ -56,35 +56,35 @@ enum sparrowpivot_refusal {
     SPARROWPIVOT_NOT_PROPER = 16     /* the node table is not proper */
 };
 
-/* What is asked of sparrowpivot_write: a sum of these. Higher bits are not looked at. */
+/* What is asked of sparrowpivot_write: a sum of these. Higher bits are ignored. */
 enum sparrowpivot_write_options {
     SPARROWPIVOT_WRITE_TREE_GIVEN = 1, /* nodes and names hold a tree */
     SPARROWPIVOT_WRITE_TREE = 2,       /* TREE is asked for; it is written if a tree is given too */
     SPARROWPIVOT_WRITE_EOIE = 4,       /* EOIE is asked for; it is written if there is a record, and TREE or sdir is written */
     SPARROWPIVOT_WRITE_SPARSE = 8,     /* the index is sparse: sdir is written */
-    SPARROWPIVOT_WRITE_UNHASHED = 16   /* 20 zeros stand in the place of the hash */
+    SPARROWPIVOT_WRITE_UNHASHED = 16   /* 20 zeros are written in place of the hash */
 };
 
 /* ---- Reading */
 
 /*
- * Reads an index file into three stores: a record for each entry, their paths one behind the other, and the nodes of its last TREE. Bytes behind those used stay as
- * they were; a malformed TREE is no tree, and makes every byte of the node store 0.
+ * Reads an index file into three stores: a record for each entry, their paths one after the other, and the nodes of its last TREE. Bytes after those used stay as
+ * they were; a malformed TREE counts as no tree, and makes every byte of the node store 0.
  * 0: version; 0 or 1, sparse; 0 or 1, there is a tree; records; path bytes; nodes used. Or 1 to 10.
  */
 uint32_t sparrowpivot_read(const uint8_t *file, size_t file_len, uint8_t *records, size_t records_len, uint8_t *paths, size_t paths_len, uint8_t *nodes,
     size_t nodes_len, uint64_t values[SPARROWPIVOT_VALUES]);
 
 /*
- * Reads `count` entries, which begin behind the file's header, into two stores. Neither header nor trailer is looked at; the entries end before the last 20 bytes.
+ * Reads `count` entries, which begin after the file's header, into two stores. Neither header nor trailer is looked at; the entries end before the last 20 bytes.
  * Version 4 is read as 4, and any other number as 2 and 3 are. A count of 0 looks at nothing, and the place is then 12, even if the file is shorter.
- * 0: the place in the file behind the entries; path bytes used; 0 or 1, one entry is a directory. Or 5 or 6.
+ * 0: the place in the file after the entries; path bytes used; 0 or 1, one entry is a directory. Or 5 or 6.
  */
 uint32_t sparrowpivot_entries(const uint8_t *file, size_t file_len, uint32_t version, size_t count, uint8_t *records, size_t records_len, uint8_t *paths,
     size_t paths_len, uint64_t values[SPARROWPIVOT_VALUES]);
 
-/* The most entries that a file of `file_size` bytes can have. `told` is 0 where it is not known where extensions begin; else they begin at `offset`. */
-uint64_t sparrowpivot_max_entries(size_t file_size, uint32_t told, size_t offset, uint32_t version);
+/* The most entries that a file of `size` bytes can have. If `told` is 0, it is not known where extensions begin; otherwise they begin at `offset`. */
+uint64_t sparrowpivot_max_entries(size_t size, uint32_t told, size_t offset, uint32_t version);
 
 /* The SHA-1 of bytes. */
 void sparrowpivot_sha1(const uint8_t *bytes, size_t bytes_len, uint8_t out[SPARROWPIVOT_ID_SIZE]);
@@ -92,25 +92,25 @@ void sparrowpivot_sha1(const uint8_t *bytes, size_t bytes_len, uint8_t out[SPARR
 /* ---- Writing */
 
 /*
- * Writes the index file of a table into `out`; bytes behind it stay as they were. Version 3 if a record has flag bit 14 (EXTENDED), else 2. Records with flag bit 17
- * (REMOVE) are left out, and their paths are not looked at. `names` holds the names of the nodes: of a table that was read, the file it was read from; `nodes` and
+ * Writes the index file of a table into `out`; bytes after it stay as they were. The version is 3 if a record has flag bit 14 (EXTENDED), else 2. Records with flag bit 17
+ * (REMOVE) are left out, and their paths are not looked at. `names` holds the names of the nodes: for a table that was read, that is the file; `nodes` and
  * `names` are looked at only where TREE is written. Siblings are written in byte order of name.
  * A node table is proper if it is not empty, node 0 alone has no parent, every other parent is an earlier node, subtree counts agree with the parents, counts are -1 to
  * 2^31 - 1, names of siblings differ, names lie in `names` and hold no NUL, and the depth is at most 64.
- * 0: version; size. Or 12, then 16, 15 and 14: the first of them that holds. An output of 0 bytes asks for the size, by 14.
+ * 0: version; size. Or 12, 16, 15 or 14: the first in this order that applies. An output of 0 bytes asks for the size, by 14.
  */
 uint32_t sparrowpivot_write(const uint8_t *records, size_t records_len, const uint8_t *paths, size_t paths_len, const uint8_t *nodes, size_t nodes_len,
     const uint8_t *names, size_t names_len, uint32_t options, uint8_t *out, size_t out_len, uint64_t values[SPARROWPIVOT_VALUES]);
 
 /* ---- Extensions. None of these refuses: each returns 0. */
 
-/* EOIE. 0 or 1, there is one that holds; the place at which extensions begin. */
+/* EOIE. 0 or 1, there is one and it is right; the place at which extensions begin. */
 uint32_t sparrowpivot_eoie(const uint8_t *file, size_t file_len, uint64_t values[SPARROWPIVOT_VALUES]);
 
 /* IEOT, the first among the extensions that begin at `offset`. 0 or 1, there is one; how many pairs it has. */
 uint32_t sparrowpivot_ieot_count(const uint8_t *file, size_t file_len, size_t offset, uint64_t values[SPARROWPIVOT_VALUES]);
 
-/* Pair number k of it, from 0 on. 0 or 1, there is one; the place in the file at which its block of entries begins; how many entries that has. */
+/* Pair number k of it, counted from 0. 0 or 1, there is one; the place in the file at which its block of entries begins; how many entries that block has. */
 uint32_t sparrowpivot_ieot_pair(const uint8_t *file, size_t file_len, size_t offset, size_t k, uint64_t values[SPARROWPIVOT_VALUES]);
 
 /* ---- Tables */
@@ -145,8 +145,8 @@ void sparrowpivot_record_id(const uint8_t *records, size_t records_len, size_t i
 uint32_t sparrowpivot_node(const uint8_t *nodes, size_t nodes_len, size_t i, uint64_t values[SPARROWPIVOT_VALUES]);
 
 /*
- * The id of node i, as the store has it; zeros where there is no such node. A node that was read and has no id (its count is -1) has zeros in the store; of one that was put together
- * otherwise whatever stands there is shown.
+ * The id of node i, as the store has it; zeros where there is no such node. A node that was read and has no id (its count is -1) has zeros in the store; for a node
+ * that was not read, whatever stands there is shown.
  */
 void sparrowpivot_node_id(const uint8_t *nodes, size_t nodes_len, size_t i, uint8_t out[SPARROWPIVOT_ID_SIZE]);
 

@@ -2,6 +2,7 @@
 use std::fmt;
 use std::ops::Range;
 
+use crate::declarations::RECORD_SIZE;
 use crate::error::Refusal;
 use crate::ffi;
 use crate::id::Id;
@@ -13,7 +14,7 @@ pub struct Entry<'a> {
     pub path: &'a [u8],
     /// Which side of a merge it is.
     pub stage: Stage,
-    /// Kind and permissions, as octal 100644.
+    /// Kind and permissions, such as octal 100644.
     pub mode: u32,
     /// The object that holds the content.
     pub id: Id,
@@ -53,9 +54,9 @@ pub enum Stage {
     Merged,
     /// 1: as both sides once had it.
     Base,
-    /// 2: as the branch has it into which one merges.
+    /// 2: as the branch that is merged into has it.
     Ours,
-    /// 3: as the branch has it which is merged.
+    /// 3: as the branch that is being merged has it.
     Theirs,
 }
 
@@ -99,7 +100,7 @@ impl fmt::Display for Stage {
 /// What the file system said of a file when git last looked: the low 32 bits of each.
 #[derive(Clone, Copy, Debug, Default, PartialEq, Eq)]
 pub struct Stat {
-    /// When its data about data last changed.
+    /// When its metadata last changed.
     pub ctime: Time,
     /// When its content last changed.
     pub mtime: Time,
@@ -129,7 +130,7 @@ impl Stat {
 pub struct Time {
     /// Whole seconds.
     pub seconds: u32,
-    /// What is beyond them.
+    /// Nanoseconds beyond them.
     pub nanoseconds: u32,
 }
 
@@ -141,12 +142,12 @@ pub struct Flags(
 );
 
 impl Flags {
-    /// Bit 15: git does not look whether the file changed.
+    /// Bit 15: git does not check whether the file changed.
     pub fn assume_valid(self) -> bool {
         self.has(15)
     }
 
-    /// Bit 14: the entry has the second run of flags, of version 3.
+    /// Bit 14: the entry has a second set of flags, those of version 3.
     pub fn extended(self) -> bool {
         self.has(14)
     }
@@ -176,10 +177,10 @@ pub struct Entries<'a> {
 
 impl<'a> Entries<'a> {
     pub(crate) fn of(records: &'a [u8], paths: &'a [u8]) -> Entries<'a> {
-        Entries { records, paths, left: 0..records.len() / ffi::RECORD_SIZE }
+        Entries { records, paths, left: 0..records.len() / RECORD_SIZE }
     }
 
-    /// How many entries come first whose paths pass a test, if all that pass it come first.
+    /// How many entries have a path that passes a test, if those that do all come first.
     pub(crate) fn split(&self, passes: impl Fn(&[u8]) -> bool) -> usize {
         let Range { start: mut low, end: mut high } = self.left;
         while low < high {

@@ -30,7 +30,7 @@ pub enum Refusal {
         /// The first such entry, counted from 0.
         entry: u64,
     },
-    /// 6: room is missing for an entry's record or path. An [`Index`](crate::Index) makes more, and never gives it.
+    /// 6: room is missing for an entry's record or path. An [`Index`](crate::Index) makes more, so it never gives this.
     NoEntryRoom {
         /// The first such entry, counted from 0.
         entry: u64,
@@ -47,11 +47,11 @@ pub enum Refusal {
     },
     /// 9: the tree is deeper than 64 levels.
     TooDeep,
-    /// 10: room is missing for a node of the tree. An [`Index`](crate::Index) makes more, and never gives it.
+    /// 10: room is missing for a node of the tree. An [`Index`](crate::Index) makes more, so it never gives this.
     NoNodeRoom,
     /// 11: a stage above 3 was looked for.
     NoStage,
-    /// 12: a record's path does not lie in the path store. No record that was read is such a one.
+    /// 12: a record's path does not lie in the path store. A record that was read never gives this.
     PathOutside {
         /// The record, counted from 0.
         record: u64,
@@ -174,7 +174,7 @@ impl fmt::Display for Refusal {
     }
 }
 
-/// The words of refusal 8. `sdir` is understood, so that it must have been one with a content.
+/// The words of refusal 8. `sdir` is understood, so it must have been one that is not empty.
 fn mandatory(f: &mut fmt::Formatter<'_>, signature: [u8; 4]) -> fmt::Result {
     let (name, value) = (signature.escape_ascii(), u32::from_be_bytes(signature));
     match &signature {

@@ -4,7 +4,7 @@ use crate::stores::be32;
 /// An extension: a signature and some bytes, between the entries and the trailer.
 #[derive(Clone, Copy, Debug, PartialEq, Eq)]
 pub struct Extension<'a> {
-    /// Its four bytes, as `TREE`.
+    /// Its four bytes, such as `TREE`.
     pub signature: [u8; 4],
     /// What it holds.
     pub body: &'a [u8],

@@ -1,94 +1,19 @@
-//! The functions of the static library (`include/sparrowpivot.h`), as safe ones. All unsafe code stands here.
+//! The functions of the static library as safe ones. All unsafe code stands here.
 //!
 //! What holds at every call: a pointer and a count come from one slice, so they name bytes that are there and may be
 //! read; a store that is written comes from a `&mut`, so it may be written and nothing else overlaps it; no pointer is
 //! null, since slices and arrays never are; and every byte lent is initialised. The library is proved to read and write
-//! nothing but what it is lent, for all bytes, to keep no pointer, and to come to an end.
+//! nothing but what it is lent, for all bytes, to keep no pointer, and to end.
+use crate::declarations::*;
 use crate::error::Refusal;
 
-/// The bytes of a record in its store.
-pub(crate) const RECORD_SIZE: usize = 96;
-/// The bytes of a node in its store.
-pub(crate) const NODE_SIZE: usize = 72;
-
 /// The eight numbers of an answer.
-pub(crate) type Values = [u64; 8];
-
-#[link(name = "sparrowpivot", kind = "static")]
-extern "C" {
-    fn sparrowpivot_read(
-        file: *const u8,
-        file_len: usize,
-        records: *mut u8,
-        records_len: usize,
-        paths: *mut u8,
-        paths_len: usize,
-        nodes: *mut u8,
-        nodes_len: usize,
-        values: *mut u64,
-    ) -> u32;
-    fn sparrowpivot_entries(
-        file: *const u8,
-        file_len: usize,
-        version: u32,
-        count: usize,
-        records: *mut u8,
-        records_len: usize,
-        paths: *mut u8,
-        paths_len: usize,
-        values: *mut u64,
-    ) -> u32;
-    fn sparrowpivot_max_entries(file_size: usize, told: u32, offset: usize, version: u32) -> u64;
-    fn sparrowpivot_eoie(file: *const u8, file_len: usize, values: *mut u64) -> u32;
-    fn sparrowpivot_lookup(
-        records: *const u8,
-        records_len: usize,
-        paths: *const u8,
-        paths_len: usize,
-        key: *const u8,
-        key_len: usize,
-        stage: u32,
-        values: *mut u64,
-    ) -> u32;
-    fn sparrowpivot_check_order(
-        records: *const u8,
-        records_len: usize,
-        paths: *const u8,
-        paths_len: usize,
-        values: *mut u64,
-    ) -> u32;
-    fn sparrowpivot_record(
-        records: *const u8,
-        records_len: usize,
-        paths: *const u8,
-        paths_len: usize,
-        i: usize,
-        values: *mut u64,
-    ) -> u32;
-    fn sparrowpivot_record_stat(records: *const u8, records_len: usize, i: usize, values: *mut u64) -> u32;
-    fn sparrowpivot_record_id(records: *const u8, records_len: usize, i: usize, out: *mut u8);
-    fn sparrowpivot_node(nodes: *const u8, nodes_len: usize, i: usize, values: *mut u64) -> u32;
-    fn sparrowpivot_node_id(nodes: *const u8, nodes_len: usize, i: usize, out: *mut u8);
-    fn sparrowpivot_write(
-        records: *const u8,
-        records_len: usize,
-        paths: *const u8,
-        paths_len: usize,
-        nodes: *const u8,
-        nodes_len: usize,
-        names: *const u8,
-        names_len: usize,
-        options: u32,
-        out: *mut u8,
-        out_len: usize,
-        values: *mut u64,
-    ) -> u32;
-}
+pub(crate) type Values = [u64; VALUES];
 
 /// The eight numbers of a call, or its refusal.
-fn answer(call: impl FnOnce(*mut u64) -> u32) -> Result<Values, Refusal> {
-    let mut values = [0; 8];
-    match call(values.as_mut_ptr()) {
+fn answer(call: impl FnOnce(*mut Values) -> u32) -> Result<Values, Refusal> {
+    let mut values = [0; VALUES];
+    match call(&mut values) {
         0 => Ok(values),
         number => Err(Refusal::new(number, values[0])),
     }
@@ -112,8 +37,8 @@ pub(crate) fn read(file: &[u8], records: &mut [u8], paths: &mut [u8], nodes: &mu
     answer(|v| unsafe { sparrowpivot_read(f, fs, r, rs, p, ps, n, ns, v) })
 }
 
-/// Reads `count` entries into two stores, in any version but 4 as in 2 and 3. The place behind them, which is 12 where
-/// `count` is 0; path bytes; whether one is a directory.
+/// Reads `count` entries into two stores; any version but 4 is read as 2 and 3 are. The place after them, which is 12
+/// where `count` is 0; path bytes; whether one is a directory.
 pub(crate) fn entries(
     file: &[u8],
     version: u32,
@@ -128,11 +53,11 @@ pub(crate) fn entries(
 
 /// The most entries that a file of so many bytes can have.
 pub(crate) fn max_entries(file_size: usize) -> u64 {
-    // Sound: it is handed numbers alone.
+    // Sound: it is passed nothing but numbers.
     unsafe { sparrowpivot_max_entries(file_size, 0, 0, 0) }
 }
 
-/// Where extensions begin, if there is an EOIE that holds.
+/// Where extensions begin, if there is an EOIE and it is right.
 pub(crate) fn eoie(file: &[u8]) -> Option<u64> {
     let (f, fs) = shown(file);
     // Sound: the file is only read; `v` points to eight numbers.
@@ -171,10 +96,10 @@ pub(crate) fn record_stat(records: &[u8], i: usize) -> Values {
 }
 
 /// The id of record i; zeros where there is none.
-pub(crate) fn record_id(records: &[u8], i: usize) -> [u8; 20] {
-    let ((r, rs), mut id) = (shown(records), [0; 20]);
+pub(crate) fn record_id(records: &[u8], i: usize) -> [u8; ID_SIZE] {
+    let ((r, rs), mut id) = (shown(records), [0; ID_SIZE]);
     // Sound: the slice is only read, any `i` may be asked for, and just the 20 bytes of an id are written.
-    unsafe { sparrowpivot_record_id(r, rs, i, id.as_mut_ptr()) };
+    unsafe { sparrowpivot_record_id(r, rs, i, &mut id) };
     id
 }
 
@@ -187,10 +112,10 @@ pub(crate) fn node(nodes: &[u8], i: usize) -> Option<Values> {
 }
 
 /// The id of node i as the store has it: zeros for a node that was read and has none, or that is not there.
-pub(crate) fn node_id(nodes: &[u8], i: usize) -> [u8; 20] {
-    let ((n, ns), mut id) = (shown(nodes), [0; 20]);
+pub(crate) fn node_id(nodes: &[u8], i: usize) -> [u8; ID_SIZE] {
+    let ((n, ns), mut id) = (shown(nodes), [0; ID_SIZE]);
     // Sound: the slice is only read, any `i` may be asked for, and just the 20 bytes of an id are written.
-    unsafe { sparrowpivot_node_id(n, ns, i, id.as_mut_ptr()) };
+    unsafe { sparrowpivot_node_id(n, ns, i, &mut id) };
     id
 }
 

@@ -6,10 +6,8 @@ use crate::entry::{Entries, Entry, Stage};
 use crate::error::{Error, Refusal};
 use crate::extension::Extensions;
 use crate::ffi;
-use crate::stores::{self, Stores};
+use crate::stores::{self, Stores, TRAILER_SIZE};
 use crate::tree::{Tree, TreeFault};
-
-const TRAILER_SIZE: usize = 20;
 
 /// An index file that was read. It owns the file's bytes and its stores, and can be shared between threads.
 pub struct Index {
@@ -26,7 +24,7 @@ pub struct Index {
 pub enum Trailer {
     /// The SHA-1 of the rest.
     Hash,
-    /// Zeros: nothing was hashed (git's `index.skipHash`), so damage in the file need not be noticed.
+    /// Zeros: nothing was hashed (git's `index.skipHash`), so damage in the file may go unnoticed.
     Zeros,
 }
 
@@ -56,12 +54,12 @@ impl Index {
         Index::from_bytes_limited(file, usize::MAX)
     }
 
-    /// Reads the bytes of an index file, with no more than so many bytes for paths; where that does not do, the answer
+    /// Reads the bytes of an index file, with at most so many bytes for paths; where that is not enough, the answer
     /// is [`Error::OutOfMemory`].
     ///
     /// Records and nodes take memory in proportion to the file. Paths do not in version 4, where each may repeat the
-    /// one before: a file of one million bytes can spell out some four thousand million. Whoever reads the files of
-    /// strangers sets a limit.
+    /// one before: a file of one million bytes can spell out some four thousand million. Set a limit when reading
+    /// files from strangers.
     pub fn from_bytes_limited(file: Vec<u8>, most_path_bytes: usize) -> Result<Index, Error> {
         let (values, stores) = stores::read(&file, most_path_bytes)?;
         let [version, sparse, tree, ..] = values;
@@ -134,7 +132,7 @@ impl Index {
     }
 
     /// Whether each entry is strictly after the one before, by the bytes of its path and then by stage. The refusal
-    /// names the first that is not. What is found once is kept.
+    /// names the first that is not. The answer is kept.
     pub fn check(&self) -> Result<(), Refusal> {
         *self.order.get_or_init(|| ffi::check_order(&self.stores.records, &self.stores.paths))
     }
@@ -167,12 +165,12 @@ impl Index {
         }
     }
 
-    /// The place in the file at which extensions begin, if there is an EOIE that holds.
+    /// The place in the file at which extensions begin, if there is an EOIE and it is right.
     pub fn end_of_entries(&self) -> Option<u64> {
         ffi::eoie(&self.file)
     }
 
-    /// The extensions of the file. Its entries are read once more to find where they begin.
+    /// The extensions of the file. To find where they begin, its entries are read once more.
     ///
     /// ```
     /// # fn main() -> Result<(), sparrowpivot::Error> {

@@ -1,4 +1,4 @@
-//! Git index files, read by code that is proved to read them right.
+//! Git index files, read by code that is proved to read them correctly.
 //!
 //! An [`Index`] owns the bytes of an index file and what was read from them: its [entries](Index::entries), which can
 //! be [found](Index::find) by path and stage, and its [tree](Index::tree). It sizes its memory by itself.
@@ -20,7 +20,7 @@
 //!
 //! What is proved is the static library beneath: reading, lookup, order check and writing. This crate hands bytes to it
 //! and asks for what it found; `unsafe` stands in one module, `ffi`, with a reason at each call. No input makes it
-//! panic. Where memory is missing for a large index, reading ends with [`Error::OutOfMemory`].
+//! panic. If there is too little memory for a large index, reading ends with [`Error::OutOfMemory`].
 #![deny(missing_docs, unsafe_code)]
 #![cfg_attr(
     not(test),
@@ -33,6 +33,7 @@
     )
 )]
 
+mod declarations;
 mod entry;
 mod error;
 mod extension;

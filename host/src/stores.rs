@@ -1,14 +1,16 @@
 //! The stores into which a file is read, and how large they must be.
+use crate::declarations::{ID_SIZE, NODE_SIZE, RECORD_SIZE};
 use crate::error::{Error, Refusal};
-use crate::ffi::{self, Values, NODE_SIZE, RECORD_SIZE};
+use crate::ffi::{self, Values};
 
 const HEADER_SIZE: usize = 12;
-const TRAILER_SIZE: usize = 20;
+/// The hash, or zeros.
+pub(crate) const TRAILER_SIZE: usize = ID_SIZE;
 /// An entry without its path.
 const FIXED_SIZE: usize = 62;
 /// The shortest node: an empty name, `-1 0` and a newline.
 const SHORTEST_NODE: usize = 6;
-/// What is first guessed for a path of version 4, whose length the file's size does not tell.
+/// What is first guessed for a path of version 4, whose length cannot be told from the file's size.
 const GUESSED_PATH: usize = 128;
 
 /// What the node store holds before reading. A TREE that is malformed makes it zeros, so the two can be told apart.
@@ -60,7 +62,7 @@ fn read_into(file: &[u8], rooms: Rooms) -> Result<Result<(Values, Stores), Refus
     }))
 }
 
-/// So many bytes, or the error that they cannot be had.
+/// A store of so many bytes, or the error that there is no memory for it.
 pub(crate) fn store(bytes: usize, fill: u8) -> Result<Vec<u8>, Error> {
     let mut store = Vec::new();
     store.try_reserve_exact(bytes).map_err(|_| Error::OutOfMemory { bytes })?;
@@ -68,7 +70,7 @@ pub(crate) fn store(bytes: usize, fill: u8) -> Result<Vec<u8>, Error> {
     Ok(store)
 }
 
-/// Keeps the part in use, and gives the memory behind it back.
+/// Keeps the part in use, and gives back the memory after it.
 fn cut(store: &mut Vec<u8>, used: usize) {
     store.truncate(used);
     store.shrink_to_fit();
@@ -95,7 +97,7 @@ impl Rooms {
             4 => in_file.max(records.saturating_mul(GUESSED_PATH)),
             _ => in_file,
         };
-        // a folder of few files is common, one of none is not
+        // folders of few files are common, empty ones are not
         let nodes = (records / 2).saturating_add(64).min((in_file / SHORTEST_NODE).saturating_add(1));
         Rooms { records, path_bytes: path_bytes.min(most_path_bytes), nodes }
     }

@@ -2,6 +2,7 @@
 use std::fmt;
 use std::ops::Range;
 
+use crate::declarations::NODE_SIZE;
 use crate::entry::Entries;
 use crate::ffi;
 use crate::id::Id;
@@ -47,7 +48,7 @@ impl<'a> Tree<'a> {
 
     /// How many nodes there are.
     pub fn len(&self) -> usize {
-        self.nodes.len() / ffi::NODE_SIZE
+        self.nodes.len() / NODE_SIZE
     }
 
     /// Whether there is none. A tree that was read has its root.
@@ -60,7 +61,7 @@ impl<'a> Tree<'a> {
         Nodes { tree: *self, left: 0..self.len() }
     }
 
-    /// Node i, from 0 on.
+    /// Node i, counted from 0.
     pub fn node(&self, i: usize) -> Option<Node<'a>> {
         let [start, end, count, subtrees, parent, ..] = ffi::node(self.nodes, i)?;
         // a count out of date is -1, which no count of 32 bits is
@@ -114,7 +115,7 @@ pub enum TreeFault {
     Malformed,
     /// Not as many entries lie below a folder as its node says.
     Count {
-        /// The folder's path with a slash behind it; empty for the root.
+        /// The folder's path with a slash after it; empty for the root.
         folder: Vec<u8>,
         /// The entries that its node counts.
         says: u32,

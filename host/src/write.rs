@@ -1,4 +1,5 @@
 //! An index written anew.
+use crate::declarations::{WRITE_EOIE, WRITE_SPARSE, WRITE_TREE, WRITE_TREE_GIVEN, WRITE_UNHASHED};
 use crate::error::{Error, Refusal};
 use crate::ffi::{self, Values};
 use crate::index::Index;
@@ -11,7 +12,7 @@ pub struct WriteOptions {
     pub tree: bool,
     /// EOIE, by which a reader finds extensions at once; it is left out where there is nothing to find.
     pub eoie: bool,
-    /// Twenty zeros in the place of the hash.
+    /// Twenty zeros in place of the hash.
     pub zero_trailer: bool,
 }
 
@@ -51,9 +52,15 @@ impl Index {
     }
 
     fn write_into(&self, options: WriteOptions, out: &mut [u8]) -> Result<Values, Refusal> {
-        let bits = [self.tree().is_some(), options.tree, options.eoie, self.is_sparse(), options.zero_trailer];
-        let sum = bits.iter().rev().fold(0u32, |sum, bit| sum.wrapping_shl(1) | u32::from(*bit));
+        let asked = [
+            (self.tree().is_some(), WRITE_TREE_GIVEN),
+            (options.tree, WRITE_TREE),
+            (options.eoie, WRITE_EOIE),
+            (self.is_sparse(), WRITE_SPARSE),
+            (options.zero_trailer, WRITE_UNHASHED),
+        ];
+        let bits = asked.iter().fold(0, |bits, (yes, bit)| if *yes { bits | bit } else { bits });
         let (records, paths, nodes) = self.tables();
-        ffi::write(records, paths, nodes, self.as_bytes(), sum, out)
+        ffi::write(records, paths, nodes, self.as_bytes(), bits, out)
     }
 }

@@ -95,7 +95,7 @@ fn help_and_version() {
     assert!(help.lines().all(|line| line.len() < 80));
 }
 
-/// A path that begins with a dash stands behind `--`, and one called `-` is no standard input.
+/// A path that begins with a dash follows `--`, and one called `-` is not standard input.
 #[test]
 fn operands_that_look_like_options() {
     let bytes = file(2, 2, &[&entry(b"-"), &entry(b"-z")]);
@@ -149,7 +149,7 @@ fn work_trees_and_submodules_have_their_own() {
     assert_eq!(run(command, b"").stdout, repo.git(&["ls-files", "--stage"]));
 }
 
-/// GIT_INDEX_FILE and GIT_DIR do what they do for git, also from below the top.
+/// GIT_INDEX_FILE and GIT_DIR do what they do for git, even from below the top.
 #[test]
 fn variables_name_the_index() {
     let repo = committed("variables");
@@ -176,7 +176,7 @@ fn variables_name_the_index() {
     }
 }
 
-/// Whoever reads the output may stop: that is no fault, and nothing is said of it.
+/// The reader of the output may stop early: that is no fault, and nothing is said about it.
 #[test]
 fn a_broken_pipe_is_quiet() {
     let entries: Vec<u8> = (0..5000).flat_map(|i| entry(format!("{i:04}").as_bytes())).collect();

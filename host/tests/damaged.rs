@@ -5,7 +5,7 @@ use sparrowpivot::{Error, Index, Stage, WriteOptions};
 use std::collections::BTreeSet;
 use std::sync::OnceLock;
 
-/// A generator of numbers that look thrown (xorshift).
+/// A generator of numbers that look random (xorshift).
 struct Dice(u64);
 
 impl Dice {
@@ -43,7 +43,7 @@ fn made() -> Vec<Vec<u8>> {
     files
 }
 
-/// One to three faults: a byte thrown, a bit turned, bytes taken out, the end cut off, the count changed.
+/// One to three faults: a random byte, a bit turned, bytes taken out, the end cut off, the count changed.
 fn damage(file: &[u8], dice: &mut Dice) -> Vec<u8> {
     let mut bad = file.to_vec();
     for _ in 0..1 + dice.below(3) {

@@ -122,7 +122,7 @@ fn room_for_paths_is_made() {
     assert!(matches!(limited, Err(Error::OutOfMemory { .. })), "{limited:?}");
 }
 
-/// More folders than entries let one guess: room is made.
+/// More folders than the number of entries suggests: room is made.
 #[test]
 fn room_for_nodes_is_made() {
     let names: Vec<u8> = (0..3000).flat_map(|i| format!("{i}\0-1 0\n").into_bytes()).collect();

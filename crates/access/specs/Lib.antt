@@ -2,7 +2,6 @@
 pub mod Order
 pub mod Verify
 pub mod Lookup
-pub mod Laws
 pub mod Steps
 pub mod Sorted
 pub mod Finds

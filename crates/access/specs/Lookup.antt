@@ -53,16 +53,17 @@ unfoldable pub steps : (ℕ → Probe) → ℕ → ℕ → ℕ → ℕ
 steps p zero low high = 0
 steps p (suc f) low high = pick (ltb low high) (1 + stepsAfter (steps p f) low high ((low + high) / 2) (p ((low + high) / 2))) 0
 
--- ---- 01's number, 0 where nothing is refused, and what the answer carries
+-- ---- 01's number of an answer, 0 where nothing is refused, and what goes with it: whether there is such a record, its index, and how many records were compared, or
+-- the record whose path lies outside
 
-abbrev pub foundNumber : Found → ℕ
-foundNumber (At i k) = 0
-foundNumber (Absent k) = 0
-foundNumber NoStage = no-stage
-foundNumber (PathOutside i) = path-outside
+abbrev pub numberOf : Found → ℕ
+numberOf (At i k) = 0
+numberOf (Absent k) = 0
+numberOf NoStage = no-stage
+numberOf (PathOutside i) = path-outside
 
-abbrev pub foundCarries : Found → List ℕ
-foundCarries (At i k) = i ∷ k ∷ []
-foundCarries (Absent k) = k ∷ []
-foundCarries NoStage = []
-foundCarries (PathOutside i) = i ∷ []
+abbrev pub carriedOf : Found → List ℕ
+carriedOf (At i k) = 1 ∷ i ∷ k ∷ []
+carriedOf (Absent k) = 0 ∷ 0 ∷ k ∷ []
+carriedOf NoStage = []
+carriedOf (PathOutside i) = i ∷ []

@@ -29,13 +29,13 @@ verifyFrom rs ps (suc f) i = pick (liesInside rs ps i) (pick (followsAt rs ps i)
 unfoldable pub verifyAt : List ℕ → List ℕ → Verified
 verifyAt rs ps = verifyFrom rs ps (recordsIn rs) 0
 
--- 01's number, 0 where nothing is refused, and what the answer carries
-abbrev pub verifiedNumber : Verified → ℕ
-verifiedNumber Sorted = 0
-verifiedNumber (PathOutside i) = path-outside
-verifiedNumber (NotAfter i) = not-after
+-- 01's number of an answer, 0 where nothing is refused, and the record that a refusal carries
+abbrev pub numberOf : Verified → ℕ
+numberOf Sorted = 0
+numberOf (PathOutside i) = path-outside
+numberOf (NotAfter i) = not-after
 
-abbrev pub verifiedCarries : Verified → List ℕ
-verifiedCarries Sorted = []
-verifiedCarries (PathOutside i) = i ∷ []
-verifiedCarries (NotAfter i) = i ∷ []
+abbrev pub carriedOf : Verified → List ℕ
+carriedOf Sorted = []
+carriedOf (PathOutside i) = i ∷ []
+carriedOf (NotAfter i) = i ∷ []

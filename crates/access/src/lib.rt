@@ -1,5 +1,6 @@
 // Looking a record up by its path and its stage.
 ghost use mathlib.Core.Path.{_≡_};
+ghost use Rattle.access.specs.Order.{placed};
 ghost use Rattle.access.specs.Lookup.{probeAt, searchAt, lookupAt};
 use order::Order;
 
@@ -20,6 +21,15 @@ pub enum Found {
     PathOutside(usize),
 }
 
+// How path a at stage g stands to path b at stage h: by path, then by stage.
+fn placed(a: &[u8], g: u32, b: &[u8], h: u32) -> Order
+    ensures { λ r. ⌜ r ≡ placed (now (a .entry)) g (now (b .entry)) h ⌝ }
+{
+    let by_path = order::compare(a, b);
+    let by_stage = order::compare_stages(g, h);
+    order::then(by_path, by_stage)
+}
+
 fn probe_at(records: &[u8], paths: &[u8], key: &[u8], stage: u32, i: usize) -> Probe
     ensures { λ r. ⌜ r ≡ probeAt (now (records .entry)) (now (paths .entry)) (now (key .entry)) stage i ⌝ }
 {
@@ -27,9 +37,7 @@ fn probe_at(records: &[u8], paths: &[u8], key: &[u8], stage: u32, i: usize) -> P
     if inside {
         let path = entry::path_of(records, paths, i);
         let found = entry::stage_at(records, i);
-        let by_path = order::compare(path, key);
-        let by_stage = order::compare_stages(found, stage);
-        let o = order::then(by_path, by_stage);
+        let o = placed(path, found, key, stage);
         return Probe::Is(o);
     }
     Probe::Outside

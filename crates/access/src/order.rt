@@ -3,7 +3,6 @@ ghost use mathlib.Core.Path.{_≡_};
 ghost use Prim.Native.Nat.{_+_, _≤_};
 ghost use lib.ListN.{length, drop};
 ghost use Rattle.laws.specs.Order.{compared};
-ghost use Rattle.wire.specs.BigEndian.{beAt};
 ghost use Rattle.access.specs.Order.{orderOf, stageOrder, thenBy, agreeing, EightsOf};
 
 pub enum Order {
@@ -39,23 +38,6 @@ fn shorter(a: &[u8], b: &[u8]) -> usize
     b.len()
 }
 
-// The eight bytes at `at` as a number, the upper first.
-fn eight_at(s: &[u8], at: usize) -> u64
-    requires { ⌜ at + 8 ≤ length (now s) ⌝ }
-    ensures { λ r. ⌜ r ≡ beAt 8 (now (s .entry)) at ⌝ }
-{
-    entry::eight::number_of(
-        s[at],
-        s[at + 1],
-        s[at + 2],
-        s[at + 3],
-        s[at + 4],
-        s[at + 5],
-        s[at + 6],
-        s[at + 7],
-    )
-}
-
 // How many leading bytes agree, counted in eights: up to eight that differ, or as far as both have eights.
 enum Eights {
     DifferAt(usize),
@@ -70,8 +52,8 @@ fn pass_eights(a: &[u8], b: &[u8]) -> Eights
     let mut j: usize = 0;
     while j < n {
         let at = j * 8;
-        let x = eight_at(a, at);
-        let y = eight_at(b, at);
+        let x = wire::be64(a, at);
+        let y = wire::be64(b, at);
         if x != y {
             return Eights::DifferAt(at);
         }
@@ -120,8 +102,8 @@ pub fn compare(a: &[u8], b: &[u8]) -> Order
     let passed = pass_eights(a, b);
     match passed {
         Eights::DifferAt(k) => {
-            let ahead = eight_at(a, k);
-            let behind = eight_at(b, k);
+            let ahead = wire::be64(a, k);
+            let behind = wire::be64(b, k);
             if ahead < behind {
                 return Order::Less;
             }

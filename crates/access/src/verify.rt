@@ -18,14 +18,14 @@ fn follows(records: &[u8], paths: &[u8], i: usize) -> bool
         return true;
     }
     let before = i - 1;
-    let by_path = super::order::compare(
-        entry::path_of(records, paths, before),
-        entry::path_of(records, paths, i),
-    );
     let a = entry::stage_at(records, before);
     let b = entry::stage_at(records, i);
-    let by_stage = super::order::compare_stages(a, b);
-    let o = super::order::then(by_path, by_stage);
+    let o = super::placed(
+        entry::path_of(records, paths, before),
+        a,
+        entry::path_of(records, paths, i),
+        b,
+    );
     match o {
         Order::Less => true,
         Order::Equal => false,

@@ -1,6 +1,6 @@
 // Replays what the Rust answers for the order check and for lookup. `stdin` is a list of cases, each with its length in two bytes before it: a letter, `v` for the
 // check, `l` for a lookup and `t` for the check and any number of lookups in one table; the number of records; each record's stage, its path's length and its path;
-// and then, for `l`, the stage and the path that are looked for; for `t`, each stage, path's length and path. tests/access_replay made the list and the answers of
+// and then, for `l`, the stage and the path that are looked for; for `t`, each stage, path's length and path. tests/make/access_replay made the list and the answers of
 // `stdout`.
 ghost use Prim.Native.Nat.{_*_, _<_};
 ghost use mathlib.Core.Path.{_≡_};
@@ -58,14 +58,18 @@ fn table(case: &[u8], n: usize, records: &mut [u8]) -> usize
     at
 }
 
-fn number(text: &[u8], x: u32) {
-    io::write_all(STDOUT_FILENO, text);
-    io::print_decimal(STDOUT_FILENO, x as u64);
-}
-
 fn place(text: &[u8], i: usize) {
     io::write_all(STDOUT_FILENO, text);
     io::print_decimal(STDOUT_FILENO, i as u64);
+}
+
+// The line of a refusal.
+fn show_refused(number: u32, carries: bool, value: usize) {
+    let mut out = [0u8; 64];
+    let size = lines::write_refused(number, carries, value as u64, &mut out);
+    if size <= 64 {
+        io::write_all(STDOUT_FILENO, &out[..size]);
+    }
 }
 
 fn show_found(f: Found) {
@@ -73,32 +77,25 @@ fn show_found(f: Found) {
         Found::At { index, compared } => {
             place(b"found ", index);
             place(b" compared ", compared);
+            io::write_all(STDOUT_FILENO, b"\n");
         }
-        Found::Absent { compared } => place(b"absent compared ", compared),
-        Found::NoStage => number(b"refused ", refusal::NO_STAGE),
-        Found::PathOutside(i) => {
-            number(b"refused ", refusal::PATH_OUTSIDE);
-            place(b" ", i);
+        Found::Absent { compared } => {
+            place(b"absent compared ", compared);
+            io::write_all(STDOUT_FILENO, b"\n");
         }
+        Found::NoStage => show_refused(refusal::NO_STAGE, false, 0),
+        Found::PathOutside(i) => show_refused(refusal::PATH_OUTSIDE, true, i),
     }
-    io::write_all(STDOUT_FILENO, b"\n");
 }
 
 fn show_verified(v: Verified) {
     match v {
         Verified::Sorted => {
-            io::write_all(STDOUT_FILENO, b"sorted");
+            io::write_all(STDOUT_FILENO, b"sorted\n");
         }
-        Verified::PathOutside(i) => {
-            number(b"refused ", refusal::PATH_OUTSIDE);
-            place(b" ", i);
-        }
-        Verified::NotAfter(i) => {
-            number(b"refused ", refusal::NOT_AFTER);
-            place(b" ", i);
-        }
+        Verified::PathOutside(i) => show_refused(refusal::PATH_OUTSIDE, true, i),
+        Verified::NotAfter(i) => show_refused(refusal::NOT_AFTER, true, i),
     }
-    io::write_all(STDOUT_FILENO, b"\n");
 }
 
 // The answer to each lookup of a case that stands from `first` on.

@@ -91,7 +91,7 @@ IsRead a = (version : ℕ) × (sparse tree : Bool) × (records paths nodes : ℕ
 
 module _ (s rs ps ns : List ℕ) (slices : Slices s ps ns) where
   abbrev reading : Outcome
-  reading = readFile 20 64 s rs ps ns
+  reading = readFile idSize depthLimit s rs ps ns
 
   says : SaysFile s rs ps ns reading
   says = reader.answer-says s rs ps ns slices

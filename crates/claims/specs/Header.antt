@@ -27,7 +27,7 @@ use Rattle.claims.specs.Premises.{GoodTrailer, zeros, hashed}
 
 -- ---- the trailer
 
-pub trailer-exactly : (s : List ℕ) → (goodTrailer 20 s ≡ true) ↔ GoodTrailer s
+pub trailer-exactly : (s : List ℕ) → (goodTrailer idSize s ≡ true) ↔ GoodTrailer s
 trailer-exactly s = ((λ e. to (good-exactly s .0 e)), (λ g. good-exactly s .1 (from g)))
   where
     to : Good s → GoodTrailer s
@@ -90,7 +90,7 @@ module _ (s : List ℕ) (bytes : Bytes s) where
       two (differs a) = three a (same? (versionOf s) 3)
 
   -- of the answer that is given its rule holds
-  pub header-says : SaysHeader s (headerAt 20 s)
+  pub header-says : SaysHeader s (headerAt idSize s)
   unfolding headerAt
   header-says = long (less? (length s) (headerLength + idSize))
     where

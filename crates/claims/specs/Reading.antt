@@ -46,18 +46,18 @@ module _ (s rs ps ns : List ℕ) (slices : Slices s ps ns) where
   end = length s - idSize
 
   abbrev reading : Outcome
-  reading = readFile 20 64 s rs ps ns
+  reading = readFile idSize depthLimit s rs ps ns
 
   -- ---- header and trailer
 
-  headed : {h : Opening} → SaysHeader s h → headerAt 20 s ≡ h
+  headed : {h : Opening} → SaysHeader s h → headerAt idSize s ≡ h
   headed x = one-header (header-says s (slices .bytes)) x
 
   untrue : (t : Bool) → (t ≡ true → ⊥) → t ≡ false
   untrue true f = absurd (f refl)
   untrue false f = refl
 
-  opened : said.Opened s → reading ≡ entriesInto 20 64 s (versionOf s) (countOf s) rs ps ns
+  opened : said.Opened s → reading ≡ entriesInto idSize depthLimit s (versionOf s) (countOf s) rs ps ns
   unfolding readFile
   opened o = rw (headed (says-opens (o .header)), trailer-exactly s .1 (o .trailer))
 
@@ -67,9 +67,9 @@ module _ (s rs ps ns : List ℕ) (slices : Slices s ps ns) where
   space-in o = record { ahead = omega (arith, o .header .long); inside = omega arith }
 
   entries-are : said.Opened s → {o : ran.Outcome} → entry.SaysRead idSize (versionOf s) headerLength (space idSize s) (countOf s) rs ps o
-      → reading ≡ afterEntries 20 64 s (versionOf s) (countOf s) ns o
+      → reading ≡ afterEntries idSize depthLimit s (versionOf s) (countOf s) ns o
   unfolding entriesInto
-  entries-are o x = opened o ∙ ap (afterEntries 20 64 s (versionOf s) (countOf s) ns) (entries.no-second-answer s (slices .bytes) (versionOf s) headerLength end (countOf s) (space-in o) rs ps x)
+  entries-are o x = opened o ∙ ap (afterEntries idSize depthLimit s (versionOf s) (countOf s) ns) (entries.no-second-answer s (slices .bytes) (versionOf s) headerLength end (countOf s) (space-in o) rs ps x)
 
   -- what was read of header and entries
   abbrev sofar : List Meaning → Sofar
@@ -93,11 +93,11 @@ module _ (s rs ps ns : List ℕ) (slices : Slices s ps ns) where
     inside = omega arith
 
     all-read : {w : Walked} → walkAt s next end reader.TREE ≡ w
-        → reading ≡ withNodes (entry.filled rs (recordsBytes idSize 0 ms)) (entry.filled ps (pathsBytes ms)) (onWalked 20 64 s (sofar ms) ns w)
+        → reading ≡ withNodes (entry.filled rs (recordsBytes idSize 0 ms)) (entry.filled ps (pathsBytes ms)) (onWalked idSize depthLimit s (sofar ms) ns w)
     unfolding extensionsInto
     all-read e =
         entries-are o (entry.says-done c (a .joins) (a .spelled) (a .fits))
-        ∙ ap (λ (v : Walked). withNodes (entry.filled rs (recordsBytes idSize 0 ms)) (entry.filled ps (pathsBytes ms)) (onWalked 20 64 s (sofar ms) ns v)) e
+        ∙ ap (λ (v : Walked). withNodes (entry.filled rs (recordsBytes idSize 0 ms)) (entry.filled ps (pathsBytes ms)) (onWalked idSize depthLimit s (sofar ms) ns v)) e
 
     -- ---- the extensions
 
@@ -125,15 +125,15 @@ module _ (s rs ps ns : List ℕ) (slices : Slices s ps ns) where
       pub at-its-place : BodyAt s end place body
       at-its-place = extensions.body-is-the-bytes s (slices .bytes) next end ahead inside es (subst (λ (z : List ℕ). Extensions z es) (sym behind) x) place body l
 
-      pub tree-is : {p : TreeAnswer × List ℕ} → tree.SaysReadTree idSize place body depthLimit ns p → readTree 20 64 s place (place + length body) ns ≡ p
+      pub tree-is : {p : TreeAnswer × List ℕ} → tree.SaysReadTree idSize place body depthLimit ns p → readTree idSize depthLimit s place (place + length body) ns ≡ p
       tree-is {p} y =
-          trees.no-second-answer 20 (lit≤ tt) 64 s place (place + length body) ns (omega (arith, at-its-place .fits)) (slices .file) (slices .nodes)
+          trees.no-second-answer idSize (lit≤ tt) depthLimit s place (place + length body) ns (omega (arith, at-its-place .fits)) (slices .file) (slices .nodes)
           (subst (λ (z : List ℕ). tree.SaysReadTree idSize place z depthLimit ns p) (sym (at-its-place .is)) y)
 
-      tree-says : tree.SaysReadTree idSize place body depthLimit ns (readTree 20 64 s place (place + length body) ns)
+      tree-says : tree.SaysReadTree idSize place body depthLimit ns (readTree idSize depthLimit s place (place + length body) ns)
       tree-says =
-          subst (λ (z : List ℕ). tree.SaysReadTree idSize place z depthLimit ns (readTree 20 64 s place (place + length body) ns)) (at-its-place .is)
-          (trees.answer-says 20 (lit≤ tt) 64 s place (place + length body) ns (omega (arith, at-its-place .fits)) (slices .file) (slices .nodes))
+          subst (λ (z : List ℕ). tree.SaysReadTree idSize place z depthLimit ns (readTree idSize depthLimit s place (place + length body) ns)) (at-its-place .is)
+          (trees.answer-says idSize (lit≤ tt) depthLimit s place (place + length body) ns (omega (arith, at-its-place .fits)) (slices .file) (slices .nodes))
 
   -- the last TREE, read
   tree-read : said.Opened s → {b c : List ℕ} {ms : List Meaning} {es : List Ext} {sparse : Bool} {place : ℕ} {body : List ℕ} → (w : said.WithTree s rs ps ns b c ms es sparse place body)
@@ -151,7 +151,7 @@ module _ (s rs ps ns : List ℕ) (slices : Slices s ps ns) where
   no-second-answer (said.says-short h) = rw (headed (says-short h))
   no-second-answer (said.says-no-signature h d) = rw (headed (says-no-signature h d))
   no-second-answer (said.says-other-version h d e) = rw (headed (says-other-version h d e))
-  no-second-answer (said.says-bad-trailer g t) = rw (headed (says-opens g), untrue (goodTrailer 20 s) (λ e. t (trailer-exactly s .0 e)))
+  no-second-answer (said.says-bad-trailer g t) = rw (headed (says-opens g), untrue (goodTrailer idSize s) (λ e. t (trailer-exactly s .0 e)))
   no-second-answer (said.says-not-spelled o rest h i x f none) = entries-are o (entry.says-not-spelled rest h i x f none)
   no-second-answer (said.says-no-entry-room o rest q h i x f y lacks) = entries-are o (entry.says-no-room rest q h i x f y lacks)
   no-second-answer (said.says-not-filled o a f) = all-read o a (walk-is o a (ext.says-not-filled f))
@@ -187,17 +187,17 @@ module _ (s rs ps ns : List ℕ) (slices : Slices s ps ns) where
   some-entries o (entry.says-not-spelled rest h i x f none) = (_, said.says-not-spelled o rest h i x f none)
   some-entries o (entry.says-no-room rest q h i x f y lacks) = (_, said.says-no-entry-room o rest q h i x f y lacks)
 
-  some-trailer : GoodHeader idSize s → (t : Bool) → goodTrailer 20 s ≡ t → Some
+  some-trailer : GoodHeader idSize s → (t : Bool) → goodTrailer idSize s ≡ t → Some
   some-trailer g true e =
       let o : said.Opened s = record { header = g; trailer = trailer-exactly s .0 e } in
       some-entries o (entries.answer-says s (slices .bytes) (versionOf s) headerLength end (countOf s) (space-in o) rs ps)
-  some-trailer g false e = (_, said.says-bad-trailer g (λ t. let q : goodTrailer 20 s ≡ true = trailer-exactly s .1 t in let z : _≡_ {A = ℕ} 0 1 = cc in omega arith))
+  some-trailer g false e = (_, said.says-bad-trailer g (λ t. let q : goodTrailer idSize s ≡ true = trailer-exactly s .1 t in let z : _≡_ {A = ℕ} 0 1 = cc in omega arith))
 
   some-header : {h : Opening} → SaysHeader s h → Some
   some-header (says-short h) = (_, said.says-short h)
   some-header (says-no-signature h d) = (_, said.says-no-signature h d)
   some-header (says-other-version h d e) = (_, said.says-other-version h d e)
-  some-header (says-opens g) = some-trailer g (goodTrailer 20 s) refl
+  some-header (says-opens g) = some-trailer g (goodTrailer idSize s) refl
 
   -- so of the answer that is given its rule holds
   pub answer-says : said.SaysFile s rs ps ns reading

@@ -12,16 +12,17 @@ use native.Mathlib.Omega.{arith}
 use lib.ListN.{length, take, replicate, getElem?}
 use Rattle.laws.specs.Pick.{pick}
 use Rattle.refusal.specs.Refusal.{short-file, no-signature, other-version, bad-trailer, not-spelled, no-entry-room, not-filled, mandatory, too-deep, no-node-room, no-stage, path-outside, not-after, short-output, too-large, not-proper}
+use Rattle.refusal.specs.Bit.{bit}
 use Rattle.format.specs.Format.{depthLimit, idSize}
 use Rattle.entry.specs.Flags.{keepFlags, bit as isSet}
 use Rattle.entry.specs.Record.{recordsIn}
 use Rattle.node.specs.Store.{nodesIn}
 use Rattle.access.specs.Lookup.{highestStage}
-use Rattle.file.specs.Answer.{numberOf}
+use Rattle.file.specs.Answer.{numberOf, carriedOf}
 use Rattle.file.specs.Read.{outcome}
 use Rattle.file.specs.declared.Answer.{Answer}
 use Rattle.write.specs.declared.Options.{Options}
-use Rattle.write.specs.Entries.{isGone}
+use Rattle.write_entries.specs.Entries.{isGone}
 use Rattle.grammar.specs.Number.{bigEndian}
 use Rattle.grammar.specs.Entry.{Meaning}
 use Rattle.grammar.specs.Tree.{Tree}
@@ -46,8 +47,7 @@ use Rattle.claims_write.specs.ProperTable.{ProperTable}
 use Rattle.claims_write.specs.SameTree.{SameTree}
 use Rattle.claims_write.specs.Kept.{kept-here, kept-length}
 use Rattle.claims_write.specs.Claims.{Roomy, writable-ends}
-use Rattle.sparrowpivot.specs.Told.{bit}
-use Rattle.sparrowpivot.specs.Reading.{readValues}
+use Rattle.sparrowpivot.specs.Told.{eight}
 use Rattle.sparrowpivot.specs.Writing.{optionsFrom}
 use Rattle.claims_settled.specs.Exports.{ReadCall, WriteCall, LookupCall, CheckOrderCall, RecordCall, record-tells, RecordStatCall, record-stat-tells, RecordIdCall, record-id-tells, NodeCall, node-tells, NodeIdCall, node-id-tells}
 use Rattle.claims_c.specs.Terms.{value, recordsTold, nodesTold, Stands, stageOf, EntryIs, InOrder, FirstNotAfter, EntryHas, Row, rows, RowIs, parentWord, idTold}
@@ -131,7 +131,7 @@ module _ {s rs ps ns values rs′ ps′ ns′ : List ℕ} {code : ℕ} (call : R
   read-refusal-that-names-nothing-tells-0 = nothing-told call
 
   -- and whatever is returned, numbers and all three stores are those of one rule of 01's table, "When the desk says no", of which none is left out (`SaysFile` of claims)
-  pub read-answers-by-the-table : (a : Answer) × (code ≡ numberOf a) × (values ≡ readValues a) × SaysFile s rs ps ns (outcome a rs′ ps′ ns′)
+  pub read-answers-by-the-table : (a : Answer) × (code ≡ numberOf a) × (values ≡ eight (carriedOf a)) × SaysFile s rs ps ns (outcome a rs′ ps′ ns′)
   read-answers-by-the-table = (reading s rs ps ns .answer, number-told call, values-told call, subst (SaysFile s rs ps ns) (left call) (reader.answer-says s rs ps ns slices))
 
   -- ---- 2. WHAT IT TELLS WHERE IT RETURNED 0: the file has exactly one meaning, and the values are that meaning's version, whether it is sparse, whether it has a tree, how many entries, how
@@ -140,7 +140,7 @@ module _ {s rs ps ns values rs′ ps′ ns′ : List ℕ} {code : ℕ} (call : R
       × (values ≡ m .version ∷ bit (m .sparse) ∷ bit (hasTree (m .tree)) ∷ length (m .entries) ∷ length (pathsBytes (m .entries)) ∷ nodesOf (m .tree) ∷ 0 ∷ 0 ∷ [])
   read-tells-the-one-meaning e =
       let (m, x, y, one) = claims.accepted-is-the-one-meaning s rs ps ns slices (zero-is-read call e) in
-      (m, x, one, values-told call ∙ ap readValues (y .answer))
+      (m, x, one, values-told call ∙ ap (λ (a : Answer). eight (carriedOf a)) (y .answer))
 
 -- ---- AFTER A CALL THAT RETURNED 0, on a file that means m (by the sentence before there is such an m, and no other). A caller lends on the records and nodes that were told, of the stores as
 -- they were left, and the path store.

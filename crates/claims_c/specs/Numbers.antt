@@ -2,20 +2,19 @@
 -- it carries. Assumes nothing.
 use Prim.Native.Nat.{ℕ, _≤_}
 use mathlib.Core.Path.{_≡_, refl, sym, ap, _∙_, subst}
-use mathlib.Core.List.{List}
+use mathlib.Core.List.{List, [], _∷_}
 use mathlib.Core.Logic.{_↔_}
 use native.Mathlib.Omega.{arith}
 use lib.Dec.{eqb, lit≤}
 use Rattle.laws.specs.Pick.{pick}
 use Rattle.refusal.specs.Refusal.{short-file, no-signature, other-version, bad-trailer, not-spelled, no-entry-room, not-filled, mandatory, too-deep, no-node-room}
 use Rattle.format.specs.Format.{depthLimit, idSize}
-use Rattle.file.specs.Answer.{numberOf, carriedOf}
+use Rattle.file.specs.Answer.{numberOf, carriedOf, valueOf}
 use Rattle.file.specs.Read.{Outcome, outcome, readFile}
 use Rattle.file.specs.declared.Answer.{Answer}
 use Rattle.file.specs.declared.Answer.the-variants as answer
 use Rattle.claims.specs.Claims.{IsRead}
-use Rattle.sparrowpivot.specs.Told.{Told, one}
-use Rattle.sparrowpivot.specs.Reading.{readValues}
+use Rattle.sparrowpivot.specs.Told.{Told, eight}
 use Rattle.claims_settled.specs.Exports.{ReadCall, read-tells}
 use Rattle.claims_c.specs.Terms.{value}
 
@@ -34,7 +33,7 @@ refusalOf number carried =
     (pick (eqb number mandatory) (answer.Mandatory carried)
     (pick (eqb number too-deep) answer.TooDeep answer.NoNodeRoom))))))))
 
-refusal-is : (a : Answer) → (numberOf a ≡ 0 → ⊥) → a ≡ refusalOf (numberOf a) (value (readValues a) 0)
+refusal-is : (a : Answer) → (numberOf a ≡ 0 → ⊥) → a ≡ refusalOf (numberOf a) (value (carriedOf a) 0)
 refusal-is (answer.Read version sparse tree records paths nodes) h = absurd (h refl)
 refusal-is answer.ShortFile h = refl
 refusal-is answer.NoSignature h = refl
@@ -85,7 +84,7 @@ module _ {s rs ps ns values rs′ ps′ ns′ : List ℕ} {code : ℕ} (call : R
   pub number-told : code ≡ numberOf given
   number-told = ap (λ (t : Told). t .code) (read-tells call)
 
-  pub values-told : values ≡ readValues given
+  pub values-told : values ≡ eight (carriedOf given)
   values-told = ap (λ (t : Told). t .values) (read-tells call)
 
   -- what the reader answers, with the stores as they were left
@@ -121,15 +120,15 @@ module _ {s rs ps ns values rs′ ps′ ns′ : List ℕ} {code : ℕ} (call : R
 
   -- and with what it carries
   pub by-number-and-value : {number k : ℕ} {a : Answer} {P : Type 0} → ((given ≡ a) ↔ P) → (number ≡ 0 → ⊥) → numberOf a ≡ number
-      → value (readValues a) 0 ≡ k → refusalOf number k ≡ a
+      → value (carriedOf a) 0 ≡ k → refusalOf number k ≡ a
       → ((code ≡ number) × (value values 0 ≡ k)) ↔ P
   by-number-and-value both some n v is = (
     (λ (e, f). both .0 (refused (λ z. some (sym e ∙ z)) ∙ (λ i. refusalOf (e i) (f i)) ∙ is)),
-    (λ p. (number-told ∙ ap numberOf (both .1 p) ∙ n, ap (λ (l : List ℕ). value l 0) (values-told ∙ ap readValues (both .1 p)) ∙ v)),
+    (λ p. (number-told ∙ ap numberOf (both .1 p) ∙ n, ap (λ (l : List ℕ). value l 0) (values-told ∙ ap (λ (a : Answer). eight (carriedOf a)) (both .1 p)) ∙ v)),
   )
 
 -- a refusal tells one value, and seven zeros
-one-value : (a : Answer) → (numberOf a ≡ 0 → ⊥) → readValues a ≡ one (carriedOf a)
+one-value : (a : Answer) → (numberOf a ≡ 0 → ⊥) → eight (carriedOf a) ≡ eight (valueOf a ∷ [])
 one-value (answer.Read version sparse tree records paths nodes) h = absurd (h refl)
 one-value answer.ShortFile h = refl
 one-value answer.NoSignature h = refl
@@ -145,7 +144,7 @@ one-value answer.NoNodeRoom h = refl
 -- and that is 0 but where one is carried
 nothing-carried : (a : Answer) → (numberOf a ≡ other-version → ⊥) → (numberOf a ≡ not-spelled → ⊥) → (numberOf a ≡ no-entry-room → ⊥)
     → (numberOf a ≡ not-filled → ⊥) → (numberOf a ≡ mandatory → ⊥)
-    → carriedOf a ≡ 0
+    → valueOf a ≡ 0
 nothing-carried (answer.Read version sparse tree records paths nodes) c₃ c₅ c₆ c₇ c₈ = refl
 nothing-carried answer.ShortFile c₃ c₅ c₆ c₇ c₈ = refl
 nothing-carried answer.NoSignature c₃ c₅ c₆ c₇ c₈ = refl
@@ -159,11 +158,11 @@ nothing-carried answer.TooDeep c₃ c₅ c₆ c₇ c₈ = refl
 nothing-carried answer.NoNodeRoom c₃ c₅ c₆ c₇ c₈ = refl
 
 module _ {s rs ps ns values rs′ ps′ ns′ : List ℕ} {code : ℕ} (call : ReadCall s rs ps ns code values rs′ ps′ ns′) (some : code ≡ 0 → ⊥) where
-  carried-told : values ≡ one (carriedOf (reading s rs ps ns .answer))
+  carried-told : values ≡ eight (valueOf (reading s rs ps ns .answer) ∷ [])
   carried-told = values-told call ∙ one-value (reading s rs ps ns .answer) (λ e. some (number-told call ∙ e))
 
-  pub one-value-told : values ≡ one (value values 0)
-  one-value-told = carried-told ∙ ap (λ (l : List ℕ). one (value l 0)) (sym carried-told)
+  pub one-value-told : values ≡ eight (value values 0 ∷ [])
+  one-value-told = carried-told ∙ ap (λ (l : List ℕ). eight (value l 0 ∷ [])) (sym carried-told)
 
   pub nothing-told : (code ≡ other-version → ⊥) → (code ≡ not-spelled → ⊥) → (code ≡ no-entry-room → ⊥) → (code ≡ not-filled → ⊥) → (code ≡ mandatory → ⊥)
       → value values 0 ≡ 0

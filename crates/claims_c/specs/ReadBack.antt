@@ -8,6 +8,7 @@ use mathlib.Core.Option.{some}
 use native.Mathlib.Omega.{arith}
 use lib.ListN.{length, take, getElem?}
 use Rattle.laws.specs.Pick.{pick}
+use Rattle.refusal.specs.Bit.{bit}
 use Rattle.format.specs.Format.{depthLimit, idSize}
 use Rattle.sha1.specs.Sha1.{sha1}
 use Rattle.entry.specs.Flags.{stageRaw, keepFlags}
@@ -16,7 +17,7 @@ use Rattle.entry.specs.Stat.{statAt}
 use Rattle.entry.specs.Laws.{path-is}
 use Rattle.node.specs.Store.{nodesIn}
 use Rattle.grammar.specs.File.{File}
-use Rattle.file.specs.Answer.{numberOf as numberRead}
+use Rattle.file.specs.Answer.{numberOf, carriedOf}
 use Rattle.file.specs.Read.{Outcome as ReadOutcome, readFile}
 use Rattle.file.specs.declared.Answer.{Answer as Read}
 use Rattle.file.specs.declared.Answer.the-variants as reading
@@ -33,8 +34,7 @@ use Rattle.claims_write.specs.Kept.{at-map, kept-is}
 use Rattle.claims_write.specs.SameTree.{SameTree}
 use Rattle.claims_write.specs.TreeBack.{tree-reads-back-node-by-node}
 use Rattle.claims_write.specs.Claims.{Roomy, reads-back, shows-written, written-reads-back}
-use Rattle.sparrowpivot.specs.Told.{Told, bit}
-use Rattle.sparrowpivot.specs.Reading.{readValues}
+use Rattle.sparrowpivot.specs.Told.{Told, eight}
 use Rattle.sparrowpivot.specs.Writing.{optionsFrom}
 use Rattle.sparrowpivot.specs.Tables.{tellNode}
 use Rattle.claims_settled.specs.Exports.{ReadCall, WriteCall, RecordCall, record-tells, RecordStatCall, record-stat-tells, RecordIdCall, record-id-tells, NodeCall, node-tells}
@@ -88,7 +88,7 @@ module _ {rs ps ns nm out values out′ : List ℕ} {options code : ℕ} (wrote 
     pub read-back-told : {values₁ rs′ ps′ ns′ : List ℕ} {code₁ : ℕ} → ReadCall (take (value values 1) out′) records′ paths′ nodes′ code₁ values₁ rs′ ps′ ns′
         → (code₁ ≡ 0)
         × (values₁ ≡ value values 0 ∷ bit (indexOf rs ps ns nm asked .sparse) ∷ bit (writesTree asked) ∷ length (keptOf rs) ∷ length (pathsBytes (meaningsOf idSize rs ps)) ∷ pick (writesTree asked) (nodesIn ns) 0 ∷ 0 ∷ 0 ∷ [])
-    read-back-told call = (number-told call ∙ ap numberRead written-read, values-told call ∙ ap readValues written-read)
+    read-back-told call = (number-told call ∙ ap numberOf written-read, values-told call ∙ ap (λ (a : Read). eight (carriedOf a)) written-read)
 
     -- what a record that loses nothing means
     written-mode : WritableTable rs ps → (j i : ℕ) → getElem? (keptOf rs) j ≡ some i → meaningOf idSize rs ps i .stat .mode ≡ modeAt rs i

@@ -10,6 +10,7 @@ use lib.Dec.{lit≤}
 use lib.ListN.{length, take, drop, replicate, length-append, length-drop}
 use lib.Seq.{take-at, take-take, drop-drop, drop-append-seam, length-take-le}
 use borrow.Author.Tests.{lt-ltb, le-ltb}
+use Rattle.refusal.specs.Bit.{bit}
 use Rattle.format.specs.Format.{idSize}
 use Rattle.node.specs.Store.{nodeSize, idPlace, idRoom, nodesIn, wordAt, idAt}
 use Rattle.node.specs.Laws.{word-out, name-part}
@@ -21,7 +22,7 @@ use Rattle.grammar.specs.Space.{Spells, spells, spelled-in-space, spelled-has-g
 use Rattle.claims_extension.specs.Body.{body-at}
 use Rattle.claims_tree.specs.Rendering.{countWord, idBytes}
 use Rattle.claims_tree.specs.Shown.{ShowsNode, ShowsTree, ShowsSubtrees}
-use Rattle.sparrowpivot.specs.Told.{Told, told, bit}
+use Rattle.sparrowpivot.specs.Told.{Told, told}
 use Rattle.sparrowpivot.specs.Tables.{tellNode, nodeId}
 use Rattle.claims_c.specs.Terms.{Stands, Row, rowsFrom, rowsBelow, rows, RowIs, parentWord, idTold}
 

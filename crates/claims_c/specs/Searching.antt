@@ -9,8 +9,10 @@ use lib.ListN.{length}
 use Rattle.laws.specs.Tests.{lt-or-ge}
 use Rattle.refusal.specs.Refusal.{no-stage, not-after}
 use Rattle.entry.specs.Record.{recordsIn}
-use Rattle.access.specs.Lookup.{highestStage, lookupAt, foundNumber}
-use Rattle.access.specs.Verify.{verifyAt, verifiedNumber}
+use Rattle.access.specs.Lookup as lookup
+use Rattle.access.specs.Lookup.{highestStage, lookupAt}
+use Rattle.access.specs.Verify as verify
+use Rattle.access.specs.Verify.{verifyAt}
 use Rattle.access.specs.Sorted.{Lies, After, StrictlySorted, yes-lies, sorted-said, said-sorted, refusal-12-said, refusal-13-said, said-refusal-13}
 use Rattle.access.specs.Finds as finds
 use Rattle.access.specs.Finds.{Has}
@@ -21,8 +23,7 @@ use Rattle.access.specs.declared.verify.Verified.the-variants as verified
 use Rattle.grammar.specs.Entry.{Meaning}
 use Rattle.claims_entries.specs.Fields.{meaning-at}
 use Rattle.claims_entries.specs.Shown.{EachShown}
-use Rattle.sparrowpivot.specs.Told.{Told}
-use Rattle.sparrowpivot.specs.Searching.{foundValues, verifiedValues}
+use Rattle.sparrowpivot.specs.Told.{Told, eight}
 use Rattle.claims_settled.specs.Exports.{LookupCall, lookup-tells, CheckOrderCall, check-order-tells}
 use Rattle.claims_c.specs.Terms.{value, EntryIs, ComesBefore, InOrder, FirstNotAfter, EntryHas}
 
@@ -128,10 +129,10 @@ module _ (rs ps : List ℕ) (es : List Meaning) (shown : EachShown rs ps es) (ma
         (λ n. finds.none-then-absent rs ps (in-order-sorted order) key stage small (λ i x. n i (has-entry i x))),
       )
 
-      pub no-refusal : (foundNumber (lookupAt rs ps key stage) ≡ 0)
+      pub no-refusal : (lookup.numberOf (lookupAt rs ps key stage) ≡ 0)
       no-refusal = by (lookupAt rs ps key stage) refl
         where
-          by : (f : Found) → lookupAt rs ps key stage ≡ f → foundNumber f ≡ 0
+          by : (f : Found) → lookupAt rs ps key stage ≡ f → lookup.numberOf f ≡ 0
           by (At i k) e = refl
           by (Absent k) e = refl
           by NoStage e = let h : highestStage < stage = finds.refusal-11-said rs ps key stage e in absurd (omega arith)
@@ -139,29 +140,29 @@ module _ (rs ps : List ℕ) (es : List Meaning) (shown : EachShown rs ps es) (ma
 
 -- ---- from what is told back to the answer
 
-pub zero-is-sorted : (v : Verified) → verifiedNumber v ≡ 0 → v ≡ verified.Sorted
+pub zero-is-sorted : (v : Verified) → verify.numberOf v ≡ 0 → v ≡ verified.Sorted
 zero-is-sorted verified.Sorted e = refl
 zero-is-sorted (verified.PathOutside i) e = absurd (omega arith)
 zero-is-sorted (verified.NotAfter i) e = absurd (omega arith)
 
-pub thirteen-is-not-after : (v : Verified) → verifiedNumber v ≡ not-after → v ≡ verified.NotAfter (value (verifiedValues v) 0)
+pub thirteen-is-not-after : (v : Verified) → verify.numberOf v ≡ not-after → v ≡ verified.NotAfter (value (verify.carriedOf v) 0)
 thirteen-is-not-after verified.Sorted e = absurd (omega arith)
 thirteen-is-not-after (verified.PathOutside i) e = absurd (omega arith)
 thirteen-is-not-after (verified.NotAfter i) e = refl
 
-pub one-is-found : (f : Found) → foundNumber f ≡ 0 → value (foundValues f) 0 ≡ 1 → (k : ℕ) × (f ≡ At (value (foundValues f) 1) k)
+pub one-is-found : (f : Found) → lookup.numberOf f ≡ 0 → value (lookup.carriedOf f) 0 ≡ 1 → (k : ℕ) × (f ≡ At (value (lookup.carriedOf f) 1) k)
 one-is-found (At i k) e q = (k, refl)
 one-is-found (Absent k) e q = absurd (omega arith)
 one-is-found NoStage e q = absurd (omega arith)
 one-is-found (PathOutside i) e q = absurd (omega arith)
 
-pub zero-is-absent : (f : Found) → foundNumber f ≡ 0 → value (foundValues f) 0 ≡ 0 → (k : ℕ) × (f ≡ Absent k)
+pub zero-is-absent : (f : Found) → lookup.numberOf f ≡ 0 → value (lookup.carriedOf f) 0 ≡ 0 → (k : ℕ) × (f ≡ Absent k)
 zero-is-absent (At i k) e q = absurd (omega arith)
 zero-is-absent (Absent k) e q = (k, refl)
 zero-is-absent NoStage e q = absurd (omega arith)
 zero-is-absent (PathOutside i) e q = absurd (omega arith)
 
-pub eleven-is-no-stage : (f : Found) → foundNumber f ≡ no-stage → f ≡ NoStage
+pub eleven-is-no-stage : (f : Found) → lookup.numberOf f ≡ no-stage → f ≡ NoStage
 eleven-is-no-stage (At i k) e = absurd (omega arith)
 eleven-is-no-stage (Absent k) e = absurd (omega arith)
 eleven-is-no-stage NoStage e = refl
@@ -171,47 +172,47 @@ eleven-is-no-stage (PathOutside i) e = absurd (omega arith)
 
 module _ {rs ps values : List ℕ} {code : ℕ} (call : CheckOrderCall rs ps code values) (es : List Meaning) (shown : EachShown rs ps es)
     (many : recordsIn rs ≡ length es) where
-  order-number : code ≡ verifiedNumber (verifyAt rs ps)
+  order-number : code ≡ verify.numberOf (verifyAt rs ps)
   order-number = ap (λ (t : Told). t .code) (check-order-tells call)
 
-  order-values : values ≡ verifiedValues (verifyAt rs ps)
+  order-values : values ≡ eight (verify.carriedOf (verifyAt rs ps))
   order-values = ap (λ (t : Told). t .values) (check-order-tells call)
 
   pub order-0-exactly : (code ≡ 0) ↔ InOrder es
   order-0-exactly =
       let both = sorted-exactly rs ps es shown many in
-      ((λ e. both .0 (zero-is-sorted (verifyAt rs ps) (sym order-number ∙ e))), (λ o. order-number ∙ ap verifiedNumber (both .1 o)))
+      ((λ e. both .0 (zero-is-sorted (verifyAt rs ps) (sym order-number ∙ e))), (λ o. order-number ∙ ap verify.numberOf (both .1 o)))
 
   pub order-13-exactly : (i : ℕ) → ((code ≡ not-after) × (value values 0 ≡ i)) ↔ FirstNotAfter es i
   order-13-exactly i =
       let both = not-after-exactly rs ps es shown many i in (
         (λ (e, f). both .0 (thirteen-is-not-after (verifyAt rs ps) (sym order-number ∙ e) ∙ ap (λ (j : ℕ). verified.NotAfter j) (ap (λ (l : List ℕ). value l 0) (sym order-values) ∙ f))),
-        (λ o. (order-number ∙ ap verifiedNumber (both .1 o), ap (λ (l : List ℕ). value l 0) (order-values ∙ ap verifiedValues (both .1 o)))),
+        (λ o. (order-number ∙ ap verify.numberOf (both .1 o), ap (λ (l : List ℕ). value l 0) (order-values ∙ ap (λ (v : Verified). eight (verify.carriedOf v)) (both .1 o)))),
       )
 
   pub order-0-or-13 : (code ≡ 0) ⊎ (code ≡ not-after)
   order-0-or-13 = by (verifyAt rs ps) refl
     where
       by : (v : Verified) → verifyAt rs ps ≡ v → (code ≡ 0) ⊎ (code ≡ not-after)
-      by verified.Sorted e = inl (order-number ∙ ap verifiedNumber e)
+      by verified.Sorted e = inl (order-number ∙ ap verify.numberOf e)
       by (verified.PathOutside i) e = absurd (never-outside rs ps es shown many i e)
-      by (verified.NotAfter i) e = inr (order-number ∙ ap verifiedNumber e)
+      by (verified.NotAfter i) e = inr (order-number ∙ ap verify.numberOf e)
 
 module _ {rs ps key values : List ℕ} {stage code : ℕ} (call : LookupCall rs ps key stage code values) where
-  found-number : code ≡ foundNumber (lookupAt rs ps key stage)
+  found-number : code ≡ lookup.numberOf (lookupAt rs ps key stage)
   found-number = ap (λ (t : Told). t .code) (lookup-tells call)
 
-  found-values : values ≡ foundValues (lookupAt rs ps key stage)
+  found-values : values ≡ eight (lookup.carriedOf (lookupAt rs ps key stage))
   found-values = ap (λ (t : Told). t .values) (lookup-tells call)
 
   pub lookup-11-exactly : (code ≡ no-stage) ↔ (highestStage < stage)
   lookup-11-exactly = (
     (λ e. finds.refusal-11-said rs ps key stage (eleven-is-no-stage (lookupAt rs ps key stage) (sym found-number ∙ e))),
-    (λ h. found-number ∙ ap foundNumber (finds.said-refusal-11 rs ps key stage h)),
+    (λ h. found-number ∙ ap lookup.numberOf (finds.said-refusal-11 rs ps key stage h)),
   )
 
   module _ (es : List Meaning) (shown : EachShown rs ps es) (many : recordsIn rs ≡ length es) (order : InOrder es) (small : stage ≤ highestStage) where
-    none-refused : foundNumber (lookupAt rs ps key stage) ≡ 0
+    none-refused : lookup.numberOf (lookupAt rs ps key stage) ≡ 0
     none-refused = no-refusal rs ps es shown many key stage order small
 
     pub lookup-0 : code ≡ 0
@@ -223,12 +224,12 @@ module _ {rs ps key values : List ℕ} {stage code : ℕ} (call : LookupCall rs 
           (λ (e, f).
               let (k, q) = one-is-found (lookupAt rs ps key stage) none-refused (ap (λ (l : List ℕ). value l 0) (sym found-values) ∙ e) in
               both .0 (k, q ∙ ap (λ (j : ℕ). At j k) (ap (λ (l : List ℕ). value l 1) (sym found-values) ∙ f))),
-          (λ x. let (k, q) = both .1 x in (ap (λ (l : List ℕ). value l 0) (found-values ∙ ap foundValues q), ap (λ (l : List ℕ). value l 1) (found-values ∙ ap foundValues q))),
+          (λ x. let (k, q) = both .1 x in (ap (λ (l : List ℕ). value l 0) (found-values ∙ ap (λ (f : Found). eight (lookup.carriedOf f)) q), ap (λ (l : List ℕ). value l 1) (found-values ∙ ap (λ (f : Found). eight (lookup.carriedOf f)) q))),
         )
 
     pub lookup-finds-none-exactly : (value values 0 ≡ 0) ↔ ((i : ℕ) → ¬ EntryHas es key stage i)
     lookup-finds-none-exactly =
         let both = absent-exactly rs ps es shown many key stage order small in (
           (λ e. both .0 (zero-is-absent (lookupAt rs ps key stage) none-refused (ap (λ (l : List ℕ). value l 0) (sym found-values) ∙ e))),
-          (λ n. let (k, q) = both .1 n in ap (λ (l : List ℕ). value l 0) (found-values ∙ ap foundValues q)),
+          (λ n. let (k, q) = both .1 n in ap (λ (l : List ℕ). value l 0) (found-values ∙ ap (λ (f : Found). eight (lookup.carriedOf f)) q)),
         )

@@ -7,13 +7,16 @@ use mathlib.Core.Option.{none, some}
 use native.Mathlib.Omega.{arith}
 use lib.ListN.{length, take, replicate, length-take}
 use borrow.Author.Tests.{lt-ltb, le-ltb}
+use Rattle.refusal.specs.Bit.{bit}
 use Rattle.format.specs.Format.{idSize}
 use Rattle.entry.specs.Layout.{recordSize}
 use Rattle.entry.specs.Record.{recordsIn, fieldAt, idAt}
 use Rattle.entry.specs.Laws.{field-out, id-out, inside-none, path-is}
 use Rattle.node.specs.Store.{nodeSize, nodesIn}
 use Rattle.access.specs.Sorted.{yes-lies}
+use Rattle.file.specs.Answer.{carriedOf}
 use Rattle.file.specs.Read.{Outcome}
+use Rattle.file.specs.declared.Answer.{Answer}
 use Rattle.grammar.specs.Entry.{Meaning}
 use Rattle.grammar.specs.Tree.{Tree}
 use Rattle.grammar.specs.File.{Index, File}
@@ -22,8 +25,7 @@ use Rattle.claims_entries.specs.Fields.{Shows}
 use Rattle.claims.specs.Premises.{Slices}
 use Rattle.claims.specs.Claims.{hasTree, nodesOf, accepted-is-the-one-meaning}
 use Rattle.claims.specs.Shown.{ShowsIndex, shown-by-the-first, accepted-is-shown}
-use Rattle.sparrowpivot.specs.Told.{Told, told, bit}
-use Rattle.sparrowpivot.specs.Reading.{readValues}
+use Rattle.sparrowpivot.specs.Told.{Told, told, eight}
 use Rattle.sparrowpivot.specs.Tables.{tellRecord, tellStat}
 use Rattle.claims_settled.specs.Exports.{ReadCall}
 use Rattle.claims_c.specs.Terms.{value, recordsTold, nodesTold, Stands, stageOf, Row, rows, RowIs}
@@ -88,7 +90,7 @@ module _ {s rs ps ns values rs′ ps′ ns′ : List ℕ} {code : ℕ} (call : R
   meaning-told =
       let (o, x, y, one) = accepted-is-the-one-meaning s rs ps ns slices (zero-is-read call returned) in
       let same : o ≡ m = sym (one m means) in
-      values-told call ∙ ap readValues (y .answer)
+      values-told call ∙ ap (λ (a : Answer). eight (carriedOf a)) (y .answer)
       ∙ ap (λ (m : Index). m .version ∷ bit (m .sparse) ∷ bit (hasTree (m .tree)) ∷ length (m .entries) ∷ length (pathsBytes (m .entries)) ∷ nodesOf (m .tree) ∷ 0 ∷ 0 ∷ []) same
 
   -- the tables that a caller lends on show it

@@ -1,7 +1,7 @@
 -- FROM NUMBERS BACK TO ANSWERS, for the writer: what a call of `sparrowpivot_write` returned and told is the writer's answer and no other. Assumes nothing.
 use Prim.Native.Nat.{ℕ}
 use mathlib.Core.Path.{_≡_, refl, sym, ap, _∙_}
-use mathlib.Core.List.{List}
+use mathlib.Core.List.{List, [], _∷_}
 use mathlib.Core.Logic.{_↔_, _⊎_, inl, inr}
 use lib.Dec.{eqb}
 use Rattle.laws.specs.Pick.{pick}
@@ -10,10 +10,10 @@ use Rattle.format.specs.Format.{depthLimit, idSize}
 use Rattle.sha1.specs.Sha1.{sha1}
 use Rattle.write.specs.declared.Answer.{Answer}
 use Rattle.write.specs.declared.Answer.the-variants as answer
-use Rattle.write.specs.File.{Outcome, numberOf, writeAll}
+use Rattle.write.specs.File.{Outcome, numberOf, carriedOf, writeAll}
 use Rattle.claims_write.specs.Answers.{IsDone}
-use Rattle.sparrowpivot.specs.Told.{Told, two}
-use Rattle.sparrowpivot.specs.Writing.{optionsFrom, writeValues}
+use Rattle.sparrowpivot.specs.Told.{Told, eight}
+use Rattle.sparrowpivot.specs.Writing.{optionsFrom}
 use Rattle.claims_settled.specs.Exports.{WriteCall, write-tells}
 use Rattle.claims_c.specs.Terms.{value}
 
@@ -25,7 +25,7 @@ answerTold number v w =
     (pick (eqb number short-output) (answer.ShortOutput v)
     (pick (eqb number too-large) answer.TooLarge answer.NotProper)))
 
-answer-is : (a : Answer) → a ≡ answerTold (numberOf a) (value (writeValues a) 0) (value (writeValues a) 1)
+answer-is : (a : Answer) → a ≡ answerTold (numberOf a) (value (carriedOf a) 0) (value (carriedOf a) 1)
 answer-is (answer.Done version size) = refl
 answer-is (answer.PathOutside index) = refl
 answer-is answer.NotProper = refl
@@ -33,14 +33,14 @@ answer-is answer.TooLarge = refl
 answer-is (answer.ShortOutput size) = refl
 
 -- version and size, or the one value of a refusal; the others are 0
-two-values : (a : Answer) → writeValues a ≡ two (value (writeValues a) 0) (value (writeValues a) 1)
+two-values : (a : Answer) → eight (carriedOf a) ≡ eight (value (carriedOf a) 0 ∷ value (carriedOf a) 1 ∷ [])
 two-values (answer.Done version size) = refl
 two-values (answer.PathOutside index) = refl
 two-values answer.NotProper = refl
 two-values answer.TooLarge = refl
 two-values (answer.ShortOutput size) = refl
 
-one-value : (a : Answer) → (numberOf a ≡ 0 → ⊥) → value (writeValues a) 1 ≡ 0
+one-value : (a : Answer) → (numberOf a ≡ 0 → ⊥) → value (carriedOf a) 1 ≡ 0
 one-value (answer.Done version size) h = absurd (h refl)
 one-value (answer.PathOutside index) h = refl
 one-value answer.NotProper h = refl
@@ -64,7 +64,7 @@ module _ {rs ps ns nm out values out′ : List ℕ} {options code : ℕ} (call :
   number-told : code ≡ numberOf (writing .answer)
   number-told = ap (λ (t : Told). t .code) (write-tells call)
 
-  values-told : values ≡ writeValues (writing .answer)
+  values-told : values ≡ eight (carriedOf (writing .answer))
   values-told = ap (λ (t : Told). t .values) (write-tells call)
 
   pub output : writing .out ≡ out′
@@ -73,8 +73,8 @@ module _ {rs ps ns nm out values out′ : List ℕ} {options code : ℕ} (call :
       let q : writing .out ≡ out′ = cc in
       q
 
-  pub two-values-told : values ≡ two (value values 0) (value values 1)
-  two-values-told = values-told ∙ two-values (writing .answer) ∙ ap (λ (l : List ℕ). two (value l 0) (value l 1)) (sym values-told)
+  pub two-values-told : values ≡ eight (value values 0 ∷ value values 1 ∷ [])
+  two-values-told = values-told ∙ two-values (writing .answer) ∙ ap (λ (l : List ℕ). eight (value l 0 ∷ value l 1 ∷ [])) (sym values-told)
 
   pub second-is-zero : (code ≡ 0 → ⊥) → value values 1 ≡ 0
   second-is-zero n = ap (λ (l : List ℕ). value l 1) values-told ∙ one-value (writing .answer) (λ e. n (number-told ∙ e))
@@ -100,9 +100,9 @@ module _ {rs ps ns nm out values out′ : List ℕ} {options code : ℕ} (call :
   )
 
   -- and with what it carries
-  pub by-number-and-value : {number k : ℕ} {a : Answer} {P : Type 0} → ((writing .answer ≡ a) ↔ P) → numberOf a ≡ number → value (writeValues a) 0 ≡ k
+  pub by-number-and-value : {number k : ℕ} {a : Answer} {P : Type 0} → ((writing .answer ≡ a) ↔ P) → numberOf a ≡ number → value (carriedOf a) 0 ≡ k
       → ((w : ℕ) → answerTold number k w ≡ a) → ((code ≡ number) × (value values 0 ≡ k)) ↔ P
   by-number-and-value both n v is = (
     (λ (e, f). both .0 (given ∙ (λ i. answerTold (e i) (f i) (value values 1)) ∙ is (value values 1))),
-    (λ p. (number-told ∙ ap numberOf (both .1 p) ∙ n, ap (λ (l : List ℕ). value l 0) (values-told ∙ ap writeValues (both .1 p)) ∙ v)),
+    (λ p. (number-told ∙ ap numberOf (both .1 p) ∙ n, ap (λ (l : List ℕ). value l 0) (values-told ∙ ap (λ (a : Answer). eight (carriedOf a)) (both .1 p)) ∙ v)),
   )

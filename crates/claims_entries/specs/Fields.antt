@@ -8,7 +8,7 @@ use mathlib.Core.Logic.{⊎-elim}
 use mathlib.Core.Option.{some}
 use native.Mathlib.Omega.{arith}
 use lib.Dec.{lit≤, lit<}
-use lib.ListN.{length, getD, take, drop, replicate, getElem?, length-append, length-drop, List·getD-append, List·getD-eq-default}
+use lib.ListN.{length, getD, take, drop, getElem?, length-append, length-drop, List·getD-append, List·getD-eq-default}
 use lib.Seq.{take-at, drop-at, drop-drop, take-all, take-append-le, drop-append-le}
 use borrow.Author.Tests.{le-leb}
 use Rattle.laws.specs.Lists.{getD-right}
@@ -19,7 +19,8 @@ use Rattle.entry.specs.Flags.{stageRaw}
 use Rattle.entry.specs.Layout.{recordSize}
 use Rattle.entry.specs.Record.{recordsIn, restOf, fieldAt, modeAt, flagsAt, stageAt, startAt, endAt, idAt, liesInside, pathAt}
 use Rattle.entry.specs.Stat.{statAt}
-use Rattle.entry.specs.Laws.{length-zeros, to-flags, to-start, to-end, field-is, id-is, inside-is, path-is}
+use Rattle.entry.specs.Laws.{field-is, id-is, inside-is, path-is}
+use Rattle.entry.specs.Found.{flags-behind, start-behind, end-behind}
 use Rattle.entry.specs.declared.stat.Stat.{Stat as ShownStat}
 use Rattle.grammar.specs.Number.{bigEndian, BigEndian, big-endian}
 use Rattle.grammar.specs.Entry.{Stat, Meaning, meaning, Words, no-words, word, keptMode, Fields, fields, Flags, plain, extended, Before, Entry, entry, Entries}
@@ -103,34 +104,6 @@ words-at (below {v = v} {vs = vs} l b) (suc j) h rest =
     let e : suc j * 4 ≡ 4 + j * 4 = omega arith in
     rw (append-assoc (bytesOf 4 v) (wordBytes vs) rest, e) (be-right 4 (bytesOf 4 v) (wordBytes vs ++ rest) 4 (j * 4) (length-bytes 4 v) ∙ words-at b j (omega arith) rest)
 
-module _ (n flags start end : ℕ) (hid : n ≤ 32) where
-  abbrev gap : List ℕ
-  gap = replicate (32 - n) 0
-
-  rest-flags : flags < 2 ^ 32 → beAt 4 (restOf n flags start end) (32 - n + 0) ≡ flags
-  unfolding restOf
-  rest-flags h =
-      be-left 4 (gap ++ bytesOf 4 flags ++ bytesOf 8 start ++ bytesOf 8 end) (replicate 4 0) (32 - n + 0) (omega (arith, to-end n flags start end hid))
-      ∙ be-left 4 (gap ++ bytesOf 4 flags ++ bytesOf 8 start) (bytesOf 8 end) (32 - n + 0) (omega (arith, to-start n flags start end hid))
-      ∙ be-left 4 (gap ++ bytesOf 4 flags) (bytesOf 8 start) (32 - n + 0) (omega (arith, to-flags n flags start end hid))
-      ∙ be-right 4 gap (bytesOf 4 flags) (32 - n) 0 (length-zeros n flags start end hid)
-      ∙ be-bytes 4 flags h
-
-  rest-start : start < 2 ^ 64 → beAt 8 (restOf n flags start end) (36 - n + 0) ≡ start
-  unfolding restOf
-  rest-start h =
-      be-left 8 (gap ++ bytesOf 4 flags ++ bytesOf 8 start ++ bytesOf 8 end) (replicate 4 0) (36 - n + 0) (omega (arith, to-end n flags start end hid))
-      ∙ be-left 8 (gap ++ bytesOf 4 flags ++ bytesOf 8 start) (bytesOf 8 end) (36 - n + 0) (omega (arith, to-start n flags start end hid))
-      ∙ be-right 8 (gap ++ bytesOf 4 flags) (bytesOf 8 start) (36 - n) 0 (to-flags n flags start end hid)
-      ∙ be-bytes 8 start h
-
-  rest-end : end < 2 ^ 64 → beAt 8 (restOf n flags start end) (44 - n + 0) ≡ end
-  unfolding restOf
-  rest-end h =
-      be-left 8 (gap ++ bytesOf 4 flags ++ bytesOf 8 start ++ bytesOf 8 end) (replicate 4 0) (44 - n + 0) (omega (arith, to-end n flags start end hid))
-      ∙ be-right 8 (gap ++ bytesOf 4 flags ++ bytesOf 8 start) (bytesOf 8 end) (44 - n) 0 (to-start n flags start end hid)
-      ∙ be-bytes 8 end h
-
 module _ (n : ℕ) (hid : n ≤ 32) (from : ℕ) (m : Meaning) (fit : FitsRecord n m) where
   abbrev row : List ℕ
   row = recordBytes n from m
@@ -157,19 +130,17 @@ module _ (n : ℕ) (hid : n ≤ 32) (from : ℕ) (m : Meaning) (fit : FitsRecord
       let l : length words ≡ 40 = length-words (numbersOf (m .stat)) in
       ap (λ (x : List ℕ). take n (drop 40 x)) (append-assoc words (m .id) rest) ∙ ap (λ (x : List ℕ). take n x) (drop-at words (m .id ++ rest) 40 l) ∙ take-at (m .id) rest n (fit .id)
 
-  -- what stands at k behind the id stands at 40 + n + k in the record
-  row-rest : (w k j : ℕ) → j ≡ 40 + n + k → beAt w row j ≡ beAt w rest k
-  unfolding recordBytes
-  row-rest w k j e = ap (λ (i : ℕ). beAt w (words ++ m .id ++ rest) i) e ∙ be-right w (words ++ m .id) rest (40 + n) k front-length
-
   row-flags : beAt 4 row 72 ≡ m .flags
-  row-flags = row-rest 4 (32 - n + 0) 72 (omega arith) ∙ rest-flags n (m .flags) from (from + length (m .path)) hid (fit .flags)
+  unfolding recordBytes
+  row-flags = flags-behind (words ++ m .id) n (m .flags) from (from + length (m .path)) hid front-length (fit .flags)
 
   row-start : from < 2 ^ 64 → beAt 8 row 76 ≡ from
-  row-start h = row-rest 8 (36 - n + 0) 76 (omega arith) ∙ rest-start n (m .flags) from (from + length (m .path)) hid h
+  unfolding recordBytes
+  row-start h = start-behind (words ++ m .id) n (m .flags) from (from + length (m .path)) hid front-length h
 
   row-end : from + length (m .path) < 2 ^ 64 → beAt 8 row 84 ≡ from + length (m .path)
-  row-end h = row-rest 8 (44 - n + 0) 84 (omega arith) ∙ rest-end n (m .flags) from (from + length (m .path)) hid h
+  unfolding recordBytes
+  row-end h = end-behind (words ++ m .id) n (m .flags) from (from + length (m .path)) hid front-length h
 
 -- ---- records among others
 

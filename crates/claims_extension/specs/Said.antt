@@ -34,14 +34,26 @@ pub data SaysBody (signature : List ℕ) (from : ℕ) (es : List Ext) : Body →
   says-missing : NoneSigned signature es → SaysBody signature from es Missing
   says-lies : {place : ℕ} {body : List ℕ} → LastSigned signature from es place body → SaysBody signature from es (Lies (fileAt place) (fileAt (place + length body)))
 
--- what each answer says: xs is the extensions' space, which starts at `from`
-pub data SaysExtensions (from : ℕ) (xs : List ℕ) : Walked → Type 0 where
+-- what each answer of a walk that looks for a signature says: xs is the extensions' space, which starts at `from`
+pub data SaysWalked (wanted : List ℕ) (from : ℕ) (xs : List ℕ) : Walked → Type 0 where
   -- extensions that may stand fill it
-  says-filled : {es : List Ext} {sparse : Bool} {body : Body} → Extensions xs es → Tells (HasSdir es) sparse → SaysBody TREE from es body → SaysExtensions from xs (Filled sparse body)
+  says-filled : {es : List Ext} {sparse : Bool} {body : Body} → Extensions xs es → Tells (HasSdir es) sparse → SaysBody wanted from es body → SaysWalked wanted from xs (Filled sparse body)
   -- 7: behind some of them stand bytes that begin with no extension
-  says-not-filled : {place : ℕ} → Faulty from xs (stray place) → SaysExtensions from xs (NotFilled (fileAt place))
+  says-not-filled : {place : ℕ} → Faulty from xs (stray place) → SaysWalked wanted from xs (NotFilled (fileAt place))
   -- 8: behind some of them stands one that may not
-  says-mandatory : {signature : List ℕ} → Faulty from xs (refused signature) → SaysExtensions from xs (Mandatory (bigEndian signature))
+  says-mandatory : {signature : List ℕ} → Faulty from xs (refused signature) → SaysWalked wanted from xs (Mandatory (bigEndian signature))
+
+-- the reader looks for TREE
+abbrev pub SaysExtensions : ℕ → List ℕ → Walked → Type 0
+SaysExtensions from xs w = SaysWalked TREE from xs w
+
+-- an answer is Filled
+abbrev pub IsFilled : Walked → Type 0
+IsFilled w = (sparse : Bool) × (body : Body) × (w ≡ Filled sparse body)
+
+-- the space is spelled
+abbrev pub AllSpelled : List ℕ → Type 0
+AllSpelled xs = (es : List Ext) × Extensions xs es
 
 -- ---- the rules leave one answer at most
 
@@ -54,11 +66,11 @@ one-body (says-lies l) (says-lies m) = let (p, q) = last-unique l m in λ i. Lie
 two-faults : {place : ℕ} {signature : List ℕ} → stray place ≡ refused signature → ⊥
 two-faults e = let z : _≡_ {A = ℕ} 0 1 = cc in omega arith
 
-pub one-answer : {from : ℕ} {xs : List ℕ} {v w : Walked} → SaysExtensions from xs v → SaysExtensions from xs w → v ≡ w
-one-answer {from} {xs} (says-filled {es = es} {sparse = a} {body = b} x m l) (says-filled {es = fs} {sparse = c} {body = d} y n k) =
+pub one-answer : {wanted : List ℕ} {from : ℕ} {xs : List ℕ} {v w : Walked} → SaysWalked wanted from xs v → SaysWalked wanted from xs w → v ≡ w
+one-answer {wanted} {from} {xs} (says-filled {es = es} {sparse = a} {body = b} x m l) (says-filled {es = fs} {sparse = c} {body = d} y n k) =
     let e : fs ≡ es = extensions-unique xs fs es y x in
     let n₂ : Tells (HasSdir es) c = rw e at n in
-    let k₂ : SaysBody TREE from es d = rw e at k in
+    let k₂ : SaysBody wanted from es d = rw e at k in
     let p : a ≡ c = tells-unique m n₂ in
     let q : b ≡ d = one-body l k₂ in
     λ i. Filled (p i) (q i)

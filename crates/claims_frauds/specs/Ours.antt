@@ -6,6 +6,7 @@ use mathlib.Core.List.{List, [], _∷_}
 use lib.ListN.{take}
 use Rattle.laws.specs.Pick.{pick}
 use Rattle.wire.specs.Places.{fileAt}
+use Rattle.format.specs.Format.{depthLimit, idSize}
 use Rattle.sha1.specs.Sha1.{sha1}
 use Rattle.sha1.specs.Pieces as pieces
 use Rattle.sha1.specs.Theorems.{each-prefix-finishes}
@@ -36,10 +37,10 @@ use Rattle.claims_frauds.specs.Demands.{Reader, Writer, Digester, Demand
 
 -- what the contracts of `file::read`, `write::write_to`, `access::lookup` and `sha1::Digest` cite
 abbrev pub reader : Reader
-reader = readFile 20 64
+reader = readFile idSize depthLimit
 
 abbrev pub writer : Writer
-writer = writeAll 20 sha1 64
+writer = writeAll idSize sha1 depthLimit
 
 abbrev pub digest : Digester
 digest = record { State = Digest; new = pieces.digestAfter []; feed = pieces.fed; finish = pieces.finished }
@@ -50,7 +51,7 @@ pub demand-3 : Demand3 reader
 demand-3 =
     record {
       accepted-exactly-if-spelled = λ s rs ps ns x t. claims.accepted-exactly-if-spelled s rs ps ns (x .slices) (x .trailer) (x .room) t;
-      one-meaning = λ s m o x y. grammar.one-meaning 20 s m o x y;
+      one-meaning = λ s m o x y. grammar.one-meaning idSize s m o x y;
       stores-are-the-meaning = λ s rs ps ns x t m y. claims.stores-are-the-meaning s rs ps ns (x .slices) (x .trailer) (x .room) t m y;
       refusal-5-exactly = λ s rs ps ns x g k. claims.refusal-5-exactly s rs ps ns (x .slices) (record { header = g; trailer = x .trailer }) (x .room) k;
       refusal-5-stores = λ s rs ps ns x g k y. claims.refusal-5-stores s rs ps ns (x .slices) (record { header = g; trailer = x .trailer }) (x .room) k y;

@@ -1,6 +1,5 @@
--- That the contract of each callable function of the leaves settles its answer and every lent store: refusal numbers, sums, hexadecimal digits, byte slices, numbers on the wire, the
+-- That the contract of each callable function of the leaves settles its answer and every lent store: sums, hexadecimal digits, byte slices, numbers on the wire, the
 -- digest. Assumes nothing.
-use Rattle.refusal.proofs as refusal
 use Rattle.sums.proofs as sums
 use Rattle.show.proofs as show
 use Rattle.slices.proofs as slices
@@ -8,17 +7,18 @@ use Rattle.wire.proofs as wire
 use Rattle.sha1.proofs as sha1
 use Rattle.claims_settled.specs.Law.{Settles, both, settled}
 
--- ---- `refusal`
-
-pub number-of-settled : Settles refusal.number_of.Kinds.ps refusal.number_of.Kinds.r refusal.number_of.Reads.Learnt
-number-of-settled κs a z z′ w w′ = settled (λ r. (r, w))
-
 -- ---- `sums`
 
-pub plus-settled : Settles sums.plus.Kinds.ps sums.plus.Kinds.r sums.plus.Reads.Learnt
-plus-settled κs a z z′ w w′ = settled (λ r. (r, w))
+pub saturating-add-settled : Settles sums.saturating_add.Kinds.ps sums.saturating_add.Kinds.r sums.saturating_add.Reads.Learnt
+saturating-add-settled κs a z z′ w w′ = settled (λ r. (r, w))
+
+pub saturating-sub-settled : Settles sums.saturating_sub.Kinds.ps sums.saturating_sub.Kinds.r sums.saturating_sub.Reads.Learnt
+saturating-sub-settled κs a z z′ w w′ = settled (λ r. (r, w))
 
 -- ---- `show`
+
+pub hex-byte-settled : Settles show.hex_byte.Kinds.ps show.hex_byte.Kinds.r show.hex_byte.Reads.Learnt
+hex-byte-settled κs a z z′ w w′ = settled (λ r. (r, w))
 
 pub hex-line-settled : Settles show.hex_line.Kinds.ps show.hex_line.Kinds.r show.hex_line.Reads.Learnt
 hex-line-settled κs a z z′ w w′ = settled (λ r. (r, w))

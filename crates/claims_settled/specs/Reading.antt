@@ -14,9 +14,6 @@ use Rattle.claims_settled.specs.Law.{Settles, SettlesSeen, settled}
 
 -- ---- `entry`
 
-pub number-of-settled : Settles entry.eight.number_of.Kinds.ps entry.eight.number_of.Kinds.r entry.eight.number_of.Reads.Learnt
-number-of-settled κs a z z′ w w′ = settled (λ r. (r, w))
-
 pub put-record-settled : Settles entry.put_record.Kinds.ps entry.put_record.Kinds.r entry.put_record.Reads.Learnt
 put-record-settled κs a z z′ w w′ = settled (λ o. (tt, (tt, (tt, (tt, (tt, (tt, (o, (tt, tt)))))))))
 

@@ -7,7 +7,7 @@ use mathlib.Core.List.{List, _++_}
 use lib.Dec.{ltb}
 use lib.ListN.{length, drop}
 use Rattle.laws.specs.Pick.{pick}
-use Rattle.format.specs.Format.{idSize}
+use Rattle.format.specs.Format.{depthLimit, idSize}
 use Rattle.sha1.specs.Sha1.{sha1}
 use Rattle.entry.specs.Record.{recordsIn}
 use Rattle.access.proofs as access
@@ -16,7 +16,7 @@ use Rattle.grammar.specs.File.{versionOf, countOf, space}
 use Rattle.file.specs.Read as file
 use Rattle.file.specs.declared.Answer.{Answer}
 use Rattle.file.specs.declared.Answer.the-variants as answer
-use Rattle.write.specs.Entries.{First, found, nowhere, firstFault, onFirst}
+use Rattle.write_entries.specs.Entries.{First, found, nowhere, firstFault, onFirst}
 use Rattle.write.specs.File as write
 use Rattle.write.specs.declared.Options.{Options}
 use Rattle.write.specs.declared.Answer.{Answer as Wrote}
@@ -144,15 +144,15 @@ module _ (rs ps ns nm : List ℕ) (o : Options) (out : List ℕ) where
     done : (version size : ℕ) (out′ : List ℕ) → Kept (write.outcome (Done version size) out′)
     refused : (a : Wrote) → Kept (write.outcome a out)
 
-  kept : Kept (write.writeAll 20 sha1 64 rs ps ns nm o out)
+  kept : Kept (write.writeAll idSize sha1 depthLimit rs ps ns nm o out)
   unfolding write.writeAll write.writeFile
-  kept = by (firstFault rs ps (recordsIn rs) 0) (write.treeFits 64 ns nm (write.writesTree o)) (ltb write.most (recordsIn rs)) (ltb write.most (length body)) (ltb (length out) (length whole))
+  kept = by (firstFault rs ps (recordsIn rs) 0) (write.treeFits depthLimit ns nm (write.writesTree o)) (ltb write.most (recordsIn rs)) (ltb write.most (length body)) (ltb (length out) (length whole))
     where
       body : List ℕ
-      body = write.bodyBytes 20 64 rs ps ns nm o
+      body = write.bodyBytes idSize depthLimit rs ps ns nm o
 
       whole : List ℕ
-      whole = write.fileBytes 20 sha1 64 rs ps ns nm o
+      whole = write.fileBytes idSize sha1 depthLimit rs ps ns nm o
 
       by : (f : First) (t a b c : Bool)
           → Kept (onFirst f (λ i. write.outcome (PathOutside i) out) (pick t (pick a (write.outcome TooLarge out) (pick b (write.outcome TooLarge out) (pick c (write.outcome (ShortOutput (length whole)) out) (write.outcome (Done (write.versionOf rs) (length whole)) (whole ++ drop (length whole) out))))) (write.outcome NotProper out)))

@@ -21,7 +21,7 @@ use Rattle.proper.specs.Table.{Proper, proper-exactly}
 use Rattle.write.specs.declared.Options.{Options}
 use Rattle.write.specs.declared.Answer.{Answer}
 use Rattle.write.specs.declared.Answer.the-variants.{Done, PathOutside, NotProper, TooLarge, ShortOutput}
-use Rattle.write.specs.Entries.{faultOf, beforeAt, anyExtended, First, found, nowhere, firstFault, onFirst}
+use Rattle.write_entries.specs.Entries.{faultOf, beforeAt, anyExtended, First, found, nowhere, firstFault, onFirst}
 use Rattle.write.specs.File.{versionOf, writesTree, treeFits, bodyBytes, fileBytes, Outcome, outcome, most, writeFile, writeAll}
 use Rattle.claims_write.specs.ProperTable.{ProperTable, proper-exactly-in-words}
 use Rattle.claims_write.specs.Sizes.{treeAsked, sizeBeforeEoie, fileSize}

@@ -26,9 +26,9 @@ use Rattle.claims_entries.specs.Rendering.{sparse-tells}
 use Rattle.claims.specs.Claims.{hasTree}
 use Rattle.write.specs.declared.Options.{Options}
 use Rattle.write.specs.declared.Answer.the-variants.{Done}
-use Rattle.write.specs.Entries.{isGone, stated, fixedOf, frontAt, flagBytes, padOf, entryOf, recordBytes, entriesBytes, keptOf as keptHere, countOf, tableBytes}
-use Rattle.write.specs.Size.{length-front}
-use Rattle.write.specs.File.{headerOf, versionOf, extensionHead, treeHead, sparsePart, contents, eoiePart, trailerOf, offsetOf, closedOf, writesTree, hasEoie, treeOf, writeAll}
+use Rattle.write_entries.specs.Entries.{isGone, stated, fixedOf, frontAt, flagBytes, padOf, entryOf, recordBytes, entriesBytes, keptOf as keptHere, countOf, tableBytes}
+use Rattle.write_entries.specs.Size.{length-front}
+use Rattle.write.specs.File.{headerOf, versionOf, extensionHead, extensionsFor, contents, eoiePart, trailerOf, offsetOf, closedOf, writesTree, hasEoie, writeAll}
 use Rattle.write.specs.Parts.{closed-parts}
 use Rattle.claims_write.specs.Meaning.{writtenFlags, keptFrom, keptOf, meaningsOf, PathsEnd}
 use Rattle.claims_write.specs.Entries.{flags-spelled}
@@ -157,13 +157,11 @@ plain-table rs ps (suc k) i h = by (isGone rs i) (plain-table rs ps k (i + 1) (o
     by false x = plain-one rs ps i (keptFrom rs k (i + 1)) (entriesBytes idSize rs ps k (i + 1)) (omega arith) x
 
 toc-is : (writes : Bool) (body : List ℕ) (marked : Bool)
-    → contents writes (length (pick writes body [])) marked ≡ signaturesAndSizes (pick writes (ext TREE body ∷ []) [] ++ pick marked (ext sdir [] ∷ []) [])
-unfolding contents treeHead sparsePart extensionHead
-toc-is true body true =
-    append-assoc TREE (bytesOf 4 (length body)) (sdir ++ bytesOf 4 0)
-    ∙ ap (λ (l : List ℕ). TREE ++ (bytesOf 4 (length body) ++ (sdir ++ l))) (sym (append-nil (bytesOf 4 0)))
+    → contents (extensionsFor writes body marked) ≡ signaturesAndSizes (pick writes (ext TREE body ∷ []) [] ++ pick marked (ext sdir [] ∷ []) [])
+unfolding contents extensionHead
+toc-is true body true = append-assoc TREE (bytesOf 4 (length body)) ((sdir ++ bytesOf 4 0) ++ []) ∙ ap (λ (l : List ℕ). TREE ++ (bytesOf 4 (length body) ++ l)) (append-assoc sdir (bytesOf 4 0) [])
 toc-is true body false = append-assoc TREE (bytesOf 4 (length body)) []
-toc-is false body true = ap (λ (l : List ℕ). sdir ++ l) (sym (append-nil (bytesOf 4 0)))
+toc-is false body true = append-assoc sdir (bytesOf 4 0) []
 toc-is false body false = refl
 
 trailer-is : (o : Options) (b : List ℕ) → TrailerPart o b (trailerOf idSize sha1 (o .unhashed) b)
@@ -214,7 +212,7 @@ module _ (rs ps ns nm : List ℕ) (o : Options) (out : List ℕ) (version size :
       by false e = tree-not-asked (sym (writes-tree-is o) ∙ e)
 
   as-asked : length ns < 2 ^ 64 → AsAsked rs ps o (versionOf rs) (written rs ps ns nm o)
-  unfolding closedOf treeOf
+  unfolding closedOf
   as-asked few =
       let d = done-says rs ps ns nm o out version size done in
       let body : List ℕ = treeBody ns nm in

@@ -10,6 +10,7 @@ use native.Mathlib.Omega.{arith}
 use lib.ListN.{length, getElem?, length-map}
 use Rattle.laws.specs.Pick.{pick}
 use Rattle.laws.specs.Tests.{Same, same, differs, same?}
+use Rattle.format.specs.Format.{depthLimit, idSize}
 use Rattle.sha1.specs.Sha1.{sha1}
 use Rattle.entry.specs.Flags.{stageRaw, keepFlags, toStorage}
 use Rattle.entry.specs.Record.{recordsIn, flagsAt}
@@ -47,7 +48,7 @@ stage-kept : (flags : ℕ) → stageRaw (keepFlags flags) ≡ stageRaw flags
 stage-kept flags = omega arith
 
 -- a record that shows the meaning of a record that loses nothing shows the record
-same-entry : (rs ps : List ℕ) (i : ℕ) (rs′ ps′ : List ℕ) (j : ℕ) → Writable rs ps i → Shows 20 rs′ ps′ j (meaningOf 20 rs ps i) → SameEntry rs ps i rs′ ps′ j
+same-entry : (rs ps : List ℕ) (i : ℕ) (rs′ ps′ : List ℕ) (j : ℕ) → Writable rs ps i → Shows idSize rs′ ps′ j (meaningOf idSize rs ps i) → SameEntry rs ps i rs′ ps′ j
 unfolding statOf
 same-entry rs ps i rs′ ps′ j fit x =
     let f = written-are-kept (flagsAt rs i) (fit .marks) in
@@ -67,19 +68,19 @@ same-entry rs ps i rs′ ps′ j fit x =
 -- for the records and the path bytes of all that is written, and where TREE is written for as many nodes as the node table has
 pub record Roomy (rs ps ns : List ℕ) (o : Options) (records′ paths′ nodes′ : List ℕ) : Type 0 where
   pub records : length (keptOf rs) * 96 ≤ length records′
-  pub paths : length (pathsBytes (meaningsOf 20 rs ps)) ≤ length paths′
+  pub paths : length (pathsBytes (meaningsOf idSize rs ps)) ≤ length paths′
   pub nodes : writesTree o ≡ true → nodesIn ns ≤ nodesIn nodes′
 
 -- ---- THE THEOREMS
 
-module _ (rs ps ns nm : List ℕ) (o : Options) (out : List ℕ) (version size : ℕ) (done : writeAll 20 sha1 64 rs ps ns nm o out .answer ≡ Done version size) (few : length ns < 2 ^ 64) (ends : PathsEnd rs ps)
+module _ (rs ps ns nm : List ℕ) (o : Options) (out : List ℕ) (version size : ℕ) (done : writeAll idSize sha1 depthLimit rs ps ns nm o out .answer ≡ Done version size) (few : length ns < 2 ^ 64) (ends : PathsEnd rs ps)
     (records′ paths′ nodes′ : List ℕ) where
   -- the written file, and what the reader makes of it
   abbrev pub bytes : List ℕ
   bytes = fileIn rs ps ns nm o out version size done
 
   abbrev pub reading : Outcome
-  reading = readFile 20 64 bytes records′ paths′ nodes′
+  reading = readFile idSize depthLimit bytes records′ paths′ nodes′
 
   abbrev pub index : Index
   index = indexOf rs ps ns nm o
@@ -91,7 +92,7 @@ module _ (rs ps ns nm : List ℕ) (o : Options) (out : List ℕ) (version size :
     slices-w : Slices (written rs ps ns nm o) paths′ nodes′
     slices-w = subst (λ (b : List ℕ). Slices b paths′ nodes′) same-file slices
 
-    room : Fits records′ paths′ (length (keptOf rs)) (meaningsOf 20 rs ps)
+    room : Fits records′ paths′ (length (keptOf rs)) (meaningsOf idSize rs ps)
     room = record { records = roomy .records; paths = roomy .paths }
 
     tree-room : TreeRoom ns nm o nodes′
@@ -101,7 +102,7 @@ module _ (rs ps ns nm : List ℕ) (o : Options) (out : List ℕ) (version size :
     pub written-renders : Renders bytes records′ paths′ nodes′ index reading
     written-renders =
         let d = done-says rs ps ns nm o out version size done in
-        subst (λ (b : List ℕ). Renders b records′ paths′ nodes′ index (readFile 20 64 b records′ paths′ nodes′)) (sym same-file)
+        subst (λ (b : List ℕ). Renders b records′ paths′ nodes′ index (readFile idSize depthLimit b records′ paths′ nodes′)) (sym same-file)
         (renders-w rs ps ns nm o (d .few) (d .short) ends records′ paths′ nodes′ slices-w room tree-room)
 
     tree-told : hasTree (index .tree) ≡ writesTree o
@@ -109,30 +110,30 @@ module _ (rs ps ns nm : List ℕ) (o : Options) (out : List ℕ) (version size :
       where
         by : (t : Bool) → writesTree o ≡ t → hasTree (index .tree) ≡ t
         by true e = ap hasTree (tree-is-meant rs ps ns nm o out version size done few e)
-        by false e = ap hasTree (ap (λ (t : Bool). pick t (readTree 20 (treePlace rs ps) (treeBody ns nm)) none) e)
+        by false e = ap hasTree (ap (λ (t : Bool). pick t (readTree idSize (treePlace rs ps) (treeBody ns nm)) none) e)
 
     nodes-told : nodesOf (index .tree) ≡ pick (writesTree o) (nodesIn ns) 0
     nodes-told = by (writesTree o) refl
       where
         by : (t : Bool) → writesTree o ≡ t → nodesOf (index .tree) ≡ pick t (nodesIn ns) 0
         by true e = ap nodesOf (tree-is-meant rs ps ns nm o out version size done few e) ∙ written-tree-nodes rs ps ns nm o out version size done few e
-        by false e = ap nodesOf (ap (λ (t : Bool). pick t (readTree 20 (treePlace rs ps) (treeBody ns nm)) none) e)
+        by false e = ap nodesOf (ap (λ (t : Bool). pick t (readTree idSize (treePlace rs ps) (treeBody ns nm)) none) e)
 
     -- it is read: the version that the writer answered, sparse as asked or by a directory, a tree exactly if TREE was written, as many records as were written, and as many nodes as the table has
-    pub reads-back : reading .answer ≡ Read version (index .sparse) (writesTree o) (length (keptOf rs)) (length (pathsBytes (meaningsOf 20 rs ps))) (pick (writesTree o) (nodesIn ns) 0)
+    pub reads-back : reading .answer ≡ Read version (index .sparse) (writesTree o) (length (keptOf rs)) (length (pathsBytes (meaningsOf idSize rs ps))) (pick (writesTree o) (nodesIn ns) 0)
     reads-back =
         let d = done-says rs ps ns nm o out version size done in
-        let c : length (meaningsOf 20 rs ps) ≡ length (keptOf rs) = length-map (keptOf rs) (meaningOf 20 rs ps) in
+        let c : length (meaningsOf idSize rs ps) ≡ length (keptOf rs) = length-map (keptOf rs) (meaningOf idSize rs ps) in
         let v = d .version-is in
-        written-renders .answer ∙ (λ j. Read (sym v j) (index .sparse) (tree-told j) (c j) (length (pathsBytes (meaningsOf 20 rs ps))) (nodes-told j))
+        written-renders .answer ∙ (λ j. Read (sym v j) (index .sparse) (tree-told j) (c j) (length (pathsBytes (meaningsOf idSize rs ps))) (nodes-told j))
 
     -- record j shows the meaning of the j-th record that was written
-    pub shows-written : (j i : ℕ) → getElem? (keptOf rs) j ≡ some i → Shows 20 (reading .records) (reading .paths) j (meaningOf 20 rs ps i)
+    pub shows-written : (j i : ℕ) → getElem? (keptOf rs) j ≡ some i → Shows idSize (reading .records) (reading .paths) j (meaningOf idSize rs ps i)
     shows-written j i e =
         let d = done-says rs ps ns nm o out version size done in
-        let x = shown-w rs ps ns nm o (d .few) (d .short) ends records′ paths′ nodes′ slices-w room tree-room j (meaningOf 20 rs ps i) (at-map (meaningOf 20 rs ps) (keptOf rs) j i e) in
-        subst (λ (p : List ℕ). Shows 20 (reading .records) p j (meaningOf 20 rs ps i)) (sym (written-renders .paths))
-        (subst (λ (r : List ℕ). Shows 20 r (filled paths′ (pathsBytes (meaningsOf 20 rs ps))) j (meaningOf 20 rs ps i)) (sym (written-renders .records)) x)
+        let x = shown-w rs ps ns nm o (d .few) (d .short) ends records′ paths′ nodes′ slices-w room tree-room j (meaningOf idSize rs ps i) (at-map (meaningOf idSize rs ps) (keptOf rs) j i e) in
+        subst (λ (p : List ℕ). Shows idSize (reading .records) p j (meaningOf idSize rs ps i)) (sym (written-renders .paths))
+        (subst (λ (r : List ℕ). Shows idSize r (filled paths′ (pathsBytes (meaningsOf idSize rs ps))) j (meaningOf idSize rs ps i)) (sym (written-renders .records)) x)
 
     -- DEMAND 2, with records marked REMOVE: what reads back is the table without them
     pub written-reads-back : WritableTable rs ps → (j i : ℕ) → getElem? (keptOf rs) j ≡ some i → SameEntry rs ps i (reading .records) (reading .paths) j

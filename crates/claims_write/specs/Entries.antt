@@ -19,8 +19,8 @@ use Rattle.grammar.specs.Number.{bigEndian, BigEndian, big-endian}
 use Rattle.grammar.specs.Entry.{keptMode, Fields, Flags, Before, fullField, Name, counted, ended, Entry, entry, behind, Entries}
 use Rattle.grammar.specs.Entry.Flags.{plain as plain-flags, extended as extended-flags}
 use Rattle.claims_entries.specs.Parts.{wordsAt, statAt, be-is, fields-says}
-use Rattle.write.specs.Entries.{isGone, stated, fixedOf, frontAt, flagBytes, padOf, entryOf, recordBytes, entriesBytes, keptOf, countOf}
-use Rattle.write.specs.Size.{length-front, length-flags}
+use Rattle.write_entries.specs.Entries.{isGone, stated, fixedOf, frontAt, flagBytes, padOf, entryOf, recordBytes, entriesBytes, keptOf, countOf}
+use Rattle.write_entries.specs.Size.{length-front, length-flags}
 use Rattle.claims_write.specs.Meaning.{statOf, writtenFlags, meaningOf, keptFrom, PathEnds, PathsEnd}
 
 -- ---- numbers

@@ -2,7 +2,7 @@
 use Prim.Native.Nat.{ℕ, suc, _+_, _^_, _≤_, _<_}
 use mathlib.Core.Path.{_≡_, refl, sym, ap, _∙_, subst}
 use mathlib.Core.Bool.{Bool, true, false}
-use mathlib.Core.List.{List, [], _∷_, _++_, append-assoc, append-nil, flatten}
+use mathlib.Core.List.{List, [], _∷_, _++_, append-assoc, flatten}
 use native.Mathlib.Omega.{arith}
 use lib.Dec.{lit<, ltb}
 use lib.ListN.{length, take, drop, length-append}
@@ -10,6 +10,7 @@ use lib.Seq.{take-at, drop-at, drop-drop}
 use Rattle.laws.specs.Pick.{pick}
 use Rattle.wire.specs.BigEndian.{beAt, bytesOf, length-bytes, be-left, be-right, be-bytes}
 use Rattle.wire.specs.Places.{fileAt}
+use Rattle.format.specs.Format.{depthLimit, idSize}
 use Rattle.sha1.specs.Sha1.{sha1}
 use Rattle.entry.specs.Record.{recordsIn}
 use Rattle.extension.specs.Signatures as reader
@@ -18,29 +19,20 @@ use Rattle.extension.specs.EndOfIndexEntry.{headersOf, offsetIn}
 use Rattle.extension.specs.Theorems.{Chain, chain-filled, chain-more}
 use Rattle.extension.specs.Telling.{beginning, Tells, tells-told}
 use Rattle.extension.specs.declared.end_of_index_entry.Told.the-variants.{Offset}
-use Rattle.grammar.specs.Extension.{Ext, ext, sdir, TREE}
 use Rattle.write.specs.declared.Options.{Options}
 use Rattle.write.specs.declared.Answer.the-variants.{Done}
-use Rattle.write.specs.Entries.{tableBytes}
-use Rattle.write.specs.File.{headerOf, extensionHead, treeHead, sparsePart, contents, eoiePart, trailerOf, frontOf, extensionsOf, bodyOf, offsetOf, closedOf, fileOf, writesTree, hasEoie, treeOf, bodyBytes, fileBytes, most, versionOf, writeAll}
+use Rattle.write_entries.specs.Entries.{tableBytes}
+use Rattle.write.specs.File.{headerOf, extensionHead, Extension, extensionsFor, extensionsOf, contents, extensionsAsked, eoiePart, trailerOf, frontOf, bodyOf, offsetOf, closedOf, fileOf, writesTree, hasEoie, bodyBytes, fileBytes, most, versionOf, writeAll}
 use Rattle.sha1.specs.Length.{length-sha1}
 use Rattle.write.specs.Parts.{length-head, length-header, length-trailer}
 use Rattle.claims_write.specs.Extensions.{EOIE}
 use Rattle.claims_write.specs.Spelled.{treeBody, written, done-says, fileIn, file-is, tree-small, count, before}
 
--- ---- extensions one behind the other, and their signatures and sizes
+-- ---- extensions whose signatures and sizes have four bytes
 
-unfoldable pub framedAll : List Ext → List ℕ
-framedAll [] = []
-framedAll (e ∷ es) = (extensionHead (e .signature) (length (e .body)) ++ e .body) ++ framedAll es
-
-unfoldable pub headsOf : List Ext → List ℕ
-headsOf [] = []
-headsOf (e ∷ es) = extensionHead (e .signature) (length (e .body)) ++ headsOf es
-
-pub data Sized : List Ext → Type 0 where
+pub data Sized : List Extension → Type 0 where
   none-left : Sized []
-  one-sized : {e : Ext} {es : List Ext} → length (e .signature) ≡ 4 → length (e .body) < 2 ^ 32 → Sized es → Sized (e ∷ es)
+  one-sized : {e : Extension} {es : List Extension} → length (e .signature) ≡ 4 → length (e .body) < 2 ^ 32 → Sized es → Sized (e ∷ es)
 
 -- ---- a head where it stands
 
@@ -58,62 +50,62 @@ module _ (p signature : List ℕ) (size : ℕ) (rest : List ℕ) (four : length 
 
 -- ---- the chain
 
-unfoldable foundFrom : List ℕ → ℕ → List Ext → List Found
+unfoldable foundFrom : List ℕ → ℕ → List Extension → List Found
 foundFrom w at [] = []
 foundFrom w at (e ∷ es) =
     record { signature = beAt 4 w at; place = at; start = fileAt (at + 8); stop = fileAt (at + 8 + length (e .body)) } ∷ foundFrom w (at + 8 + length (e .body)) es
 
-found-length : (w : List ℕ) (es : List Ext) (at : ℕ) → length (foundFrom w at es) ≡ length es
+found-length : (w : List ℕ) (es : List Extension) (at : ℕ) → length (foundFrom w at es) ≡ length es
 unfolding foundFrom
 found-length w [] at = refl
 found-length w (e ∷ es) at = ap suc (found-length w es (at + 8 + length (e .body)))
 
 module _ (w : List ℕ) (end : ℕ) (inside : end ≤ length w) where
   -- the bytes around the first of them
-  around : (e : Ext) (es : List Ext) (p q : List ℕ) → w ≡ p ++ (framedAll (e ∷ es) ++ q) → w ≡ p ++ (extensionHead (e .signature) (length (e .body)) ++ (e .body ++ (framedAll es ++ q)))
-  unfolding framedAll
+  around : (e : Extension) (es : List Extension) (p q : List ℕ) → w ≡ p ++ (extensionsOf (e ∷ es) ++ q) → w ≡ p ++ (extensionHead (e .signature) (length (e .body)) ++ (e .body ++ (extensionsOf es ++ q)))
+  unfolding extensionsOf
   around e es p q i =
       let h : List ℕ = extensionHead (e .signature) (length (e .body)) in
-      i ∙ ap (λ (l : List ℕ). p ++ l) (append-assoc (h ++ e .body) (framedAll es) q ∙ append-assoc h (e .body) (framedAll es ++ q))
+      i ∙ ap (λ (l : List ℕ). p ++ l) (append-assoc (h ++ e .body) (extensionsOf es) q ∙ append-assoc h (e .body) (extensionsOf es ++ q))
 
-  past : (e : Ext) (es : List Ext) (p q : List ℕ) → w ≡ p ++ (framedAll (e ∷ es) ++ q) → w ≡ (p ++ (extensionHead (e .signature) (length (e .body)) ++ e .body)) ++ (framedAll es ++ q)
-  unfolding framedAll
+  past : (e : Extension) (es : List Extension) (p q : List ℕ) → w ≡ p ++ (extensionsOf (e ∷ es) ++ q) → w ≡ (p ++ (extensionHead (e .signature) (length (e .body)) ++ e .body)) ++ (extensionsOf es ++ q)
+  unfolding extensionsOf
   past e es p q i =
       let h : List ℕ = extensionHead (e .signature) (length (e .body)) in
-      i ∙ ap (λ (l : List ℕ). p ++ l) (append-assoc (h ++ e .body) (framedAll es) q) ∙ sym (append-assoc p (h ++ e .body) (framedAll es ++ q))
+      i ∙ ap (λ (l : List ℕ). p ++ l) (append-assoc (h ++ e .body) (extensionsOf es) q) ∙ sym (append-assoc p (h ++ e .body) (extensionsOf es ++ q))
 
   -- how far the first of them goes
-  step : (e : Ext) (p : List ℕ) → length (e .signature) ≡ 4 → length (p ++ (extensionHead (e .signature) (length (e .body)) ++ e .body)) ≡ length p + 8 + length (e .body)
+  step : (e : Extension) (p : List ℕ) → length (e .signature) ≡ 4 → length (p ++ (extensionHead (e .signature) (length (e .body)) ++ e .body)) ≡ length p + 8 + length (e .body)
   step e p l =
       let h : List ℕ = extensionHead (e .signature) (length (e .body)) in
       omega (arith, length-append p (h ++ e .body), length-append h (e .body), length-head (e .signature) (length (e .body)) l)
 
-  length-framed : (e : Ext) (es : List Ext) → length (e .signature) ≡ 4 → length (framedAll (e ∷ es)) ≡ 8 + length (e .body) + length (framedAll es)
-  unfolding framedAll
+  length-framed : (e : Extension) (es : List Extension) → length (e .signature) ≡ 4 → length (extensionsOf (e ∷ es)) ≡ 8 + length (e .body) + length (extensionsOf es)
+  unfolding extensionsOf
   length-framed e es l =
       let h : List ℕ = extensionHead (e .signature) (length (e .body)) in
-      omega (arith, length-append (h ++ e .body) (framedAll es), length-append h (e .body), length-head (e .signature) (length (e .body)) l)
+      omega (arith, length-append (h ++ e .body) (extensionsOf es), length-append h (e .body), length-head (e .signature) (length (e .body)) l)
 
-  framed-none : length (framedAll []) ≡ 0
-  unfolding framedAll
+  framed-none : length (extensionsOf []) ≡ 0
+  unfolding extensionsOf
   framed-none = refl
 
-  chain-of : {es : List Ext} → Sized es → (p q : List ℕ) (at : ℕ) → at ≡ length p → w ≡ p ++ (framedAll es ++ q) → end ≡ length p + length (framedAll es) → Chain w end at (foundFrom w at es) filled
+  chain-of : {es : List Extension} → Sized es → (p q : List ℕ) (at : ℕ) → at ≡ length p → w ≡ p ++ (extensionsOf es ++ q) → end ≡ length p + length (extensionsOf es) → Chain w end at (foundFrom w at es) filled
   unfolding foundFrom
   chain-of none-left p q at a i f = let e : at ≡ end = omega (arith, framed-none) in chain-filled inside e
   chain-of (one-sized {e = e} {es = es} l h rest) p q at a i f =
       let z : beAt 4 w (at + 4) ≡ length (e .body) =
-      ap (λ (j : ℕ). beAt 4 w (j + 4)) a ∙ ap (λ (s : List ℕ). beAt 4 s (length p + 4)) (around e es p q i) ∙ size-here p (e .signature) (length (e .body)) (e .body ++ (framedAll es ++ q)) l h in
+      ap (λ (j : ℕ). beAt 4 w (j + 4)) a ∙ ap (λ (s : List ℕ). beAt 4 s (length p + 4)) (around e es p q i) ∙ size-here p (e .signature) (length (e .body)) (e .body ++ (extensionsOf es ++ q)) l h in
       let g : at + 8 + length (e .body) ≤ end = omega (arith, length-framed e es l) in
       chain-more {at = at} (record { fits = record { inside = inside; whole = omega arith }; begins = refl; named = refl; starts = refl; stops = ap (λ (j : ℕ). fileAt (at + 8 + j)) (sym z) })
       (chain-of rest (p ++ (extensionHead (e .signature) (length (e .body)) ++ e .body)) q (at + 8 + length (e .body)) (omega (arith, step e p l)) (past e es p q i) (omega (arith, step e p l, length-framed e es l)))
 
-  heads-of : {es : List Ext} → Sized es → (p q : List ℕ) (at : ℕ) → at ≡ length p → w ≡ p ++ (framedAll es ++ q) → flatten (headersOf w (foundFrom w at es)) ≡ headsOf es
-  unfolding foundFrom headersOf headsOf flatten
+  heads-of : {es : List Extension} → Sized es → (p q : List ℕ) (at : ℕ) → at ≡ length p → w ≡ p ++ (extensionsOf es ++ q) → flatten (headersOf w (foundFrom w at es)) ≡ contents es
+  unfolding foundFrom headersOf contents flatten
   heads-of none-left p q at a i = refl
   heads-of (one-sized {e = e} {es = es} l h rest) p q at a i =
       let x : take 8 (drop at w) ≡ extensionHead (e .signature) (length (e .body)) =
-      ap (λ (j : ℕ). take 8 (drop j w)) a ∙ ap (λ (s : List ℕ). take 8 (drop (length p) s)) (around e es p q i) ∙ head-here p (e .signature) (length (e .body)) (e .body ++ (framedAll es ++ q)) l in
+      ap (λ (j : ℕ). take 8 (drop j w)) a ∙ ap (λ (s : List ℕ). take 8 (drop (length p) s)) (around e es p q i) ∙ head-here p (e .signature) (length (e .body)) (e .body ++ (extensionsOf es ++ q)) l in
       let y = heads-of rest (p ++ (extensionHead (e .signature) (length (e .body)) ++ e .body)) q (at + 8 + length (e .body)) (omega (arith, step e p l)) (past e es p q i) in
       λ j. x j ++ y j
 
@@ -123,32 +115,32 @@ module _ (w : List ℕ) (end : ℕ) (inside : end ≤ length w) where
 abbrev pub eoieOf : ℕ → List ℕ → List ℕ
 eoieOf offset heads = (extensionHead EOIE 24 ++ bytesOf 4 offset) ++ sha1 heads
 
-module _ (front r : List ℕ) (offset : ℕ) (es : List Ext) (offset-is : offset ≡ length front) (low : 12 ≤ length front) (high : length front < 2 ^ 32) (trailer : length r ≡ 20) (sized : Sized es) where
+module _ (front r : List ℕ) (offset : ℕ) (es : List Extension) (offset-is : offset ≡ length front) (low : 12 ≤ length front) (high : length front < 2 ^ 32) (trailer : length r ≡ idSize) (sized : Sized es) where
   -- a file: what stands before the extensions, they, EOIE and the trailer
   abbrev whole : List ℕ
-  whole = front ++ (framedAll es ++ (eoieOf offset (headsOf es) ++ r))
+  whole = front ++ (extensionsOf es ++ (eoieOf offset (contents es) ++ r))
 
   abbrev until : List ℕ
-  until = front ++ framedAll es
+  until = front ++ extensionsOf es
 
-  whole-is : whole ≡ until ++ (eoieOf offset (headsOf es) ++ r)
-  whole-is = sym (append-assoc front (framedAll es) (eoieOf offset (headsOf es) ++ r))
+  whole-is : whole ≡ until ++ (eoieOf offset (contents es) ++ r)
+  whole-is = sym (append-assoc front (extensionsOf es) (eoieOf offset (contents es) ++ r))
 
   -- EOIE from its head on
-  eoie-is : eoieOf offset (headsOf es) ++ r ≡ extensionHead EOIE 24 ++ (bytesOf 4 offset ++ (sha1 (headsOf es) ++ r))
-  eoie-is = append-assoc (extensionHead EOIE 24 ++ bytesOf 4 offset) (sha1 (headsOf es)) r ∙ append-assoc (extensionHead EOIE 24) (bytesOf 4 offset) (sha1 (headsOf es) ++ r)
+  eoie-is : eoieOf offset (contents es) ++ r ≡ extensionHead EOIE 24 ++ (bytesOf 4 offset ++ (sha1 (contents es) ++ r))
+  eoie-is = append-assoc (extensionHead EOIE 24 ++ bytesOf 4 offset) (sha1 (contents es)) r ∙ append-assoc (extensionHead EOIE 24) (bytesOf 4 offset) (sha1 (contents es) ++ r)
 
-  length-eoie : length (eoieOf offset (headsOf es)) ≡ 32
+  length-eoie : length (eoieOf offset (contents es)) ≡ 32
   length-eoie =
-      omega (arith, length-append (extensionHead EOIE 24 ++ bytesOf 4 offset) (sha1 (headsOf es)), length-append (extensionHead EOIE 24) (bytesOf 4 offset), length-head EOIE 24 refl, length-bytes 4 offset, length-sha1 (headsOf es))
+      omega (arith, length-append (extensionHead EOIE 24 ++ bytesOf 4 offset) (sha1 (contents es)), length-append (extensionHead EOIE 24) (bytesOf 4 offset), length-head EOIE 24 refl, length-bytes 4 offset, length-sha1 (contents es))
 
   long-enough : length whole ≡ length until + 52
-  long-enough = ap length whole-is ∙ omega (arith, length-append until (eoieOf offset (headsOf es) ++ r), length-append (eoieOf offset (headsOf es)) r, length-eoie)
+  long-enough = ap length whole-is ∙ omega (arith, length-append until (eoieOf offset (contents es) ++ r), length-append (eoieOf offset (contents es)) r, length-eoie)
 
-  begins : beginning 20 whole ≡ length until
+  begins : beginning idSize whole ≡ length until
   begins = omega (arith, long-enough)
 
-  at-eoie : whole ≡ until ++ (extensionHead EOIE 24 ++ (bytesOf 4 offset ++ (sha1 (headsOf es) ++ r)))
+  at-eoie : whole ≡ until ++ (extensionHead EOIE 24 ++ (bytesOf 4 offset ++ (sha1 (contents es) ++ r)))
   at-eoie = whole-is ∙ ap (λ (l : List ℕ). until ++ l) eoie-is
 
   eoie-named : (rest : List ℕ) → beAt 4 (extensionHead EOIE 24 ++ rest) 0 ≡ reader.EOIE
@@ -157,46 +149,46 @@ module _ (front r : List ℕ) (offset : ℕ) (es : List Ext) (offset-is : offset
 
   named : beAt 4 whole (length until) ≡ reader.EOIE
   named =
-      let rest : List ℕ = bytesOf 4 offset ++ (sha1 (headsOf es) ++ r) in
+      let rest : List ℕ = bytesOf 4 offset ++ (sha1 (contents es) ++ r) in
       let e : length until ≡ length until + 0 = omega arith in
       (λ j. beAt 4 (at-eoie j) (e j)) ∙ be-right 4 until (extensionHead EOIE 24 ++ rest) (length until) 0 refl ∙ eoie-named rest
 
   size-is : beAt 4 whole (length until + 4) ≡ 24
-  size-is = ap (λ (s : List ℕ). beAt 4 s (length until + 4)) at-eoie ∙ size-here until EOIE 24 (bytesOf 4 offset ++ (sha1 (headsOf es) ++ r)) refl (lit< tt)
+  size-is = ap (λ (s : List ℕ). beAt 4 s (length until + 4)) at-eoie ∙ size-here until EOIE 24 (bytesOf 4 offset ++ (sha1 (contents es) ++ r)) refl (lit< tt)
 
   told : beAt 4 whole (length until + 8) ≡ offset
   told =
       let h : List ℕ = extensionHead EOIE 24 in
-      let rest : List ℕ = sha1 (headsOf es) ++ r in
+      let rest : List ℕ = sha1 (contents es) ++ r in
       ap (λ (s : List ℕ). beAt 4 s (length until + 8)) at-eoie
       ∙ be-right 4 until (h ++ (bytesOf 4 offset ++ rest)) (length until) 8 refl
       ∙ be-right 4 h (bytesOf 4 offset ++ rest) 8 0 (length-head EOIE 24 refl)
       ∙ be-left 4 (bytesOf 4 offset) rest 0 (omega (arith, length-bytes 4 offset))
       ∙ be-bytes 4 offset (omega arith)
 
-  hash-is : take 20 (drop (length until + 12) whole) ≡ sha1 (headsOf es)
+  hash-is : take idSize (drop (length until + 12) whole) ≡ sha1 (contents es)
   hash-is =
       let h : List ℕ = extensionHead EOIE 24 in
-      let rest : List ℕ = sha1 (headsOf es) ++ r in
+      let rest : List ℕ = sha1 (contents es) ++ r in
       let l : length (h ++ bytesOf 4 offset) ≡ 12 = omega (arith, length-append h (bytesOf 4 offset), length-head EOIE 24 refl, length-bytes 4 offset) in
       let i : whole ≡ until ++ ((h ++ bytesOf 4 offset) ++ rest) = at-eoie ∙ ap (λ (s : List ℕ). until ++ s) (sym (append-assoc h (bytesOf 4 offset) rest)) in
-      ap (λ (s : List ℕ). take 20 (drop (length until + 12) s)) i
-      ∙ ap (λ (s : List ℕ). take 20 s) (sym (drop-drop 12 (length until) (until ++ ((h ++ bytesOf 4 offset) ++ rest))) ∙ ap (λ (s : List ℕ). drop 12 s) (drop-at until ((h ++ bytesOf 4 offset) ++ rest) (length until) refl) ∙ drop-at (h ++ bytesOf 4 offset) rest 12 l)
-      ∙ take-at (sha1 (headsOf es)) r 20 (length-sha1 (headsOf es))
+      ap (λ (s : List ℕ). take idSize (drop (length until + 12) s)) i
+      ∙ ap (λ (s : List ℕ). take idSize s) (sym (drop-drop 12 (length until) (until ++ ((h ++ bytesOf 4 offset) ++ rest))) ∙ ap (λ (s : List ℕ). drop 12 s) (drop-at until ((h ++ bytesOf 4 offset) ++ rest) (length until) refl) ∙ drop-at (h ++ bytesOf 4 offset) rest 12 l)
+      ∙ take-at (sha1 (contents es)) r idSize (length-sha1 (contents es))
 
   inside : length until ≤ length whole
   inside = omega (arith, long-enough)
 
   chained : Chain whole (length until) offset (foundFrom whole offset es) filled
-  chained = chain-of whole (length until) inside sized front (eoieOf offset (headsOf es) ++ r) offset offset-is refl (length-append front (framedAll es))
+  chained = chain-of whole (length until) inside sized front (eoieOf offset (contents es) ++ r) offset offset-is refl (length-append front (extensionsOf es))
 
-  heads : flatten (headersOf whole (foundFrom whole offset es)) ≡ headsOf es
-  heads = heads-of whole (length until) inside sized front (eoieOf offset (headsOf es) ++ r) offset offset-is refl
+  heads : flatten (headersOf whole (foundFrom whole offset es)) ≡ contents es
+  heads = heads-of whole (length until) inside sized front (eoieOf offset (contents es) ++ r) offset offset-is refl
 
-  true-told : 0 < length es → Tells 20 sha1 whole offset
+  true-told : 0 < length es → Tells idSize sha1 whole offset
   true-told some = go (foundFrom whole offset es) (found-length whole es offset) chained heads
     where
-      go : (fs : List Found) → length fs ≡ length es → Chain whole (length until) offset fs filled → flatten (headersOf whole fs) ≡ headsOf es → Tells 20 sha1 whole offset
+      go : (fs : List Found) → length fs ≡ length es → Chain whole (length until) offset fs filled → flatten (headersOf whole fs) ≡ contents es → Tells idSize sha1 whole offset
       go [] l c e = absurd (omega arith)
       go (f ∷ fs) l c e =
           record {
@@ -205,44 +197,27 @@ module _ (front r : List ℕ) (offset : ℕ) (es : List Ext) (offset-is : offset
             sized = ap (λ (j : ℕ). beAt 4 whole (j + 4)) begins ∙ size-is;
             told = ap (λ (j : ℕ). beAt 4 whole (j + 8)) begins ∙ told;
             low = omega arith;
-            high = omega (arith, begins, length-append front (framedAll es));
+            high = omega (arith, begins, length-append front (extensionsOf es));
             first = f;
             rest = fs;
             fills = subst (λ (j : ℕ). Chain whole j offset (f ∷ fs) filled) (sym begins) c;
-            hashed = ap sha1 e ∙ sym (ap (λ (j : ℕ). take 20 (drop (j + 12) whole)) begins ∙ hash-is);
+            hashed = ap sha1 e ∙ sym (ap (λ (j : ℕ). take idSize (drop (j + 12) whole)) begins ∙ hash-is);
           }
 
 -- ---- the extensions before EOIE
 
-abbrev others : Bool → List ℕ → Bool → List Ext
-others writes tree sparse = pick writes (ext TREE tree ∷ []) [] ++ pick sparse (ext sdir [] ∷ []) []
-
-framed-is : (writes : Bool) (tree : List ℕ) (sparse : Bool) → framedAll (others writes tree sparse) ≡ extensionsOf writes (pick writes tree []) sparse
-unfolding framedAll extensionsOf treeHead sparsePart
-framed-is true tree true = ap (λ (l : List ℕ). (extensionHead TREE (length tree) ++ tree) ++ l) (append-nil (extensionHead sdir 0 ++ []) ∙ append-nil (extensionHead sdir 0))
-framed-is true tree false = refl
-framed-is false tree true = append-nil (extensionHead sdir 0 ++ []) ∙ append-nil (extensionHead sdir 0)
-framed-is false tree false = refl
-
-heads-are : (writes : Bool) (tree : List ℕ) (sparse : Bool) → headsOf (others writes tree sparse) ≡ contents writes (length (pick writes tree [])) sparse
-unfolding headsOf contents treeHead sparsePart
-heads-are true tree true = ap (λ (l : List ℕ). extensionHead TREE (length tree) ++ l) (append-nil (extensionHead sdir 0))
-heads-are true tree false = refl
-heads-are false tree true = append-nil (extensionHead sdir 0)
-heads-are false tree false = refl
-
-sized-others : (writes : Bool) (tree : List ℕ) (sparse : Bool) → (writes ≡ true → length tree < 2 ^ 32) → Sized (others writes tree sparse)
+sized-others : (writes : Bool) (tree : List ℕ) (sparse : Bool) → (writes ≡ true → length tree < 2 ^ 32) → Sized (extensionsFor writes tree sparse)
 sized-others true tree true h = one-sized refl (h refl) (one-sized refl (lit< tt) none-left)
 sized-others true tree false h = one-sized refl (h refl) none-left
 sized-others false tree true h = one-sized refl (lit< tt) none-left
 sized-others false tree false h = none-left
 
 -- EOIE is written only where there is one of them
-some-other : (n : ℕ) (o : Options) (tree : List ℕ) → hasEoie n o ≡ true → 0 < length (others (writesTree o) tree (o .sparse))
+some-other : (n : ℕ) (o : Options) (tree : List ℕ) → hasEoie n o ≡ true → 0 < length (extensionsFor (writesTree o) tree (o .sparse))
 unfolding hasEoie
 some-other n o tree e = by (o .eoie) (ltb 0 n) (writesTree o) (o .sparse) e
   where
-    by : (a b c d : Bool) → pick a (pick b (pick c true d) false) false ≡ true → 0 < length (others c tree d)
+    by : (a b c d : Bool) → pick a (pick b (pick c true d) false) false ≡ true → 0 < length (extensionsFor c tree d)
     by false b c d e = let z : _≡_ {A = ℕ} 0 1 = cc in absurd (omega arith)
     by true false c d e = let z : _≡_ {A = ℕ} 0 1 = cc in absurd (omega arith)
     by true true false false e = let z : _≡_ {A = ℕ} 0 1 = cc in absurd (omega arith)
@@ -254,43 +229,41 @@ some-other n o tree e = by (o .eoie) (ltb 0 n) (writesTree o) (o .sparse) e
 
 module _ (rs ps ns nm : List ℕ) (o : Options) where
   abbrev before-extensions : List ℕ
-  before-extensions = headerOf (versionOf rs) (count rs ps ns nm o) ++ tableBytes 20 rs ps
+  before-extensions = headerOf (versionOf rs) (count rs ps ns nm o) ++ tableBytes idSize rs ps
 
-  abbrev here : List Ext
-  here = others (writesTree o) (treeBody ns nm) (o .sparse)
+  abbrev here : List Extension
+  here = extensionsAsked idSize depthLimit ns nm o
 
   abbrev last : List ℕ
-  last = trailerOf 20 sha1 (o .unhashed) (before rs ps ns nm o)
+  last = trailerOf idSize sha1 (o .unhashed) (before rs ps ns nm o)
 
-  with-eoie : hasEoie (recordsIn rs) o ≡ true → written rs ps ns nm o ≡ before-extensions ++ (framedAll here ++ (eoieOf (offsetOf 20 rs ps) (headsOf here) ++ last))
-  unfolding fileBytes fileOf closedOf bodyBytes bodyOf frontOf treeOf eoiePart
+  with-eoie : hasEoie (recordsIn rs) o ≡ true → written rs ps ns nm o ≡ before-extensions ++ (extensionsOf here ++ (eoieOf (offsetOf idSize rs ps) (contents here) ++ last))
+  unfolding fileBytes fileOf closedOf bodyBytes bodyOf frontOf eoiePart
   with-eoie e =
-      let x : List ℕ = extensionsOf (writesTree o) (pick (writesTree o) (treeBody ns nm) []) (o .sparse) in
-      let heads : List ℕ = contents (writesTree o) (length (pick (writesTree o) (treeBody ns nm) [])) (o .sparse) in
-      let part : Bool → List ℕ = λ t. pick t (eoieOf (offsetOf 20 rs ps) heads) [] in
-      let r : List ℕ = trailerOf 20 sha1 (o .unhashed) ((before-extensions ++ x) ++ part (hasEoie (recordsIn rs) o)) in
+      let x : List ℕ = extensionsOf here in
+      let part : Bool → List ℕ = λ t. pick t (eoieOf (offsetOf idSize rs ps) (contents here)) [] in
+      let r : List ℕ = trailerOf idSize sha1 (o .unhashed) ((before-extensions ++ x) ++ part (hasEoie (recordsIn rs) o)) in
       append-assoc (before-extensions ++ x) (part (hasEoie (recordsIn rs) o)) r
       ∙ append-assoc before-extensions x (part (hasEoie (recordsIn rs) o) ++ r)
       ∙ ap (λ (t : Bool). before-extensions ++ (x ++ (part t ++ r))) e
-      ∙ (λ j. before-extensions ++ (sym (framed-is (writesTree o) (treeBody ns nm) (o .sparse)) j ++ (eoieOf (offsetOf 20 rs ps) (sym (heads-are (writesTree o) (treeBody ns nm) (o .sparse)) j) ++ r)))
 
-  module _ (few : recordsIn rs ≤ most) (short : length (bodyBytes 20 64 rs ps ns nm o) ≤ most) where
-    offset-is : offsetOf 20 rs ps ≡ length before-extensions
-    offset-is = omega (arith, length-append (headerOf (versionOf rs) (count rs ps ns nm o)) (tableBytes 20 rs ps), length-header (versionOf rs) (count rs ps ns nm o))
+  module _ (few : recordsIn rs ≤ most) (short : length (bodyBytes idSize depthLimit rs ps ns nm o) ≤ most) where
+    offset-is : offsetOf idSize rs ps ≡ length before-extensions
+    offset-is = omega (arith, length-append (headerOf (versionOf rs) (count rs ps ns nm o)) (tableBytes idSize rs ps), length-header (versionOf rs) (count rs ps ns nm o))
 
     offset-small : length before-extensions ≤ most
     unfolding bodyBytes bodyOf frontOf
-    offset-small = omega (arith, length-append before-extensions (extensionsOf (writesTree o) (treeOf 20 64 ns nm (writesTree o)) (o .sparse)))
+    offset-small = omega (arith, length-append before-extensions (extensionsOf here))
 
-    found-in-written : hasEoie (recordsIn rs) o ≡ true → offsetIn 20 sha1 (written rs ps ns nm o) ≡ Offset (fileAt (offsetOf 20 rs ps))
+    found-in-written : hasEoie (recordsIn rs) o ≡ true → offsetIn idSize sha1 (written rs ps ns nm o) ≡ Offset (fileAt (offsetOf idSize rs ps))
     found-in-written e =
-        let t = true-told before-extensions last (offsetOf 20 rs ps) here offset-is (omega (arith, offset-is)) (omega (arith, offset-small)) (length-trailer (o .unhashed) (before rs ps ns nm o))
+        let t = true-told before-extensions last (offsetOf idSize rs ps) here offset-is (omega (arith, offset-is)) (omega (arith, offset-small)) (length-trailer (o .unhashed) (before rs ps ns nm o))
         (sized-others (writesTree o) (treeBody ns nm) (o .sparse) (tree-small rs ps ns nm o short)) (some-other (recordsIn rs) o (treeBody ns nm) e) in
-        ap (λ (s : List ℕ). offsetIn 20 sha1 s) (with-eoie e) ∙ tells-told 20 sha1 (before-extensions ++ (framedAll here ++ (eoieOf (offsetOf 20 rs ps) (headsOf here) ++ last))) (offsetOf 20 rs ps) t
+        ap (λ (s : List ℕ). offsetIn idSize sha1 s) (with-eoie e) ∙ tells-told idSize sha1 (before-extensions ++ (extensionsOf here ++ (eoieOf (offsetOf idSize rs ps) (contents here) ++ last))) (offsetOf idSize rs ps) t
 
 -- where the writer answers Done and EOIE is written, the EOIE reader finds it and tells where the extensions start
-pub eoie-is-found : (rs ps ns nm : List ℕ) (o : Options) (out : List ℕ) (version size : ℕ) (done : writeAll 20 sha1 64 rs ps ns nm o out .answer ≡ Done version size) → hasEoie (recordsIn rs) o ≡ true
-    → offsetIn 20 sha1 (fileIn rs ps ns nm o out version size done) ≡ Offset (fileAt (offsetOf 20 rs ps))
+pub eoie-is-found : (rs ps ns nm : List ℕ) (o : Options) (out : List ℕ) (version size : ℕ) (done : writeAll idSize sha1 depthLimit rs ps ns nm o out .answer ≡ Done version size) → hasEoie (recordsIn rs) o ≡ true
+    → offsetIn idSize sha1 (fileIn rs ps ns nm o out version size done) ≡ Offset (fileAt (offsetOf idSize rs ps))
 eoie-is-found rs ps ns nm o out version size done e =
     let d = done-says rs ps ns nm o out version size done in
-    ap (λ (s : List ℕ). offsetIn 20 sha1 s) (file-is rs ps ns nm o out version size done) ∙ found-in-written rs ps ns nm o (d .few) (d .short) e
+    ap (λ (s : List ℕ). offsetIn idSize sha1 s) (file-is rs ps ns nm o out version size done) ∙ found-in-written rs ps ns nm o (d .few) (d .short) e

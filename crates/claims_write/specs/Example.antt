@@ -23,8 +23,8 @@ use Rattle.file.specs.Read.{Outcome as ReadOutcome}
 use Rattle.claims.specs.Premises.{Slices}
 use Rattle.write.specs.declared.Options.{Options}
 use Rattle.write.specs.declared.Answer.the-variants.{Done}
-use Rattle.write.specs.Entries.{faultOf, stated, fixedOf, frontAt, flagBytes, entryOf, recordBytes, entriesBytes, keptOf, countOf, anyExtended, firstFault}
-use Rattle.write.specs.File.{headerOf, extensionHead, treeHead, sparsePart, contents, eoiePart, trailerOf, frontOf, extensionsOf, bodyOf, closedOf, fileOf, writesTree, hasEoie, treeOf, treeFits, bodyBytes, fileBytes, Outcome, writeFile, writeAll}
+use Rattle.write_entries.specs.Entries.{faultOf, stated, fixedOf, frontAt, flagBytes, entryOf, recordBytes, entriesBytes, keptOf, countOf, anyExtended, firstFault}
+use Rattle.write.specs.File.{headerOf, extensionHead, contents, eoiePart, trailerOf, frontOf, extensionsOf, bodyOf, closedOf, fileOf, writesTree, hasEoie, treeFits, bodyBytes, fileBytes, Outcome, writeFile, writeAll}
 use Rattle.claims_write.specs.Meaning.{keptFrom, WritableTable, SameEntry}
 use Rattle.claims_write.specs.Claims.{Roomy, reading, bytes, written-reads-back, writable-ends}
 
@@ -49,7 +49,7 @@ options = record { tree = true; cache = true; eoie = false; sparse = true; unhas
 -- ---- it is written: version 2, 137 bytes
 
 unfoldable writing : Outcome
-unfolding nulIn nulAt beAt bytesOf digitsBy digitsOf fieldAt liesInside pathAt wordAt idAt isPart partOf nameInside nameAt anyIn twin repeats siblingsDiffer countBytes frontBytes numberBytes idBytes headBytes better bestRun nextKid kids each nodeBytes parentFits countFits holdsNone nameFits climbs nodeFits childCount kidsFit allIn isProper faultOf stated fixedOf frontAt flagBytes entryOf recordBytes entriesBytes keptOf countOf anyExtended firstFault headerOf extensionHead treeHead sparsePart contents eoiePart trailerOf frontOf extensionsOf bodyOf closedOf fileOf writesTree hasEoie treeOf treeFits bodyBytes fileBytes writeFile writeAll
+unfolding nulIn nulAt beAt bytesOf digitsBy digitsOf fieldAt liesInside pathAt wordAt idAt isPart partOf nameInside nameAt anyIn twin repeats siblingsDiffer countBytes frontBytes numberBytes idBytes headBytes better bestRun nextKid kids each nodeBytes parentFits countFits holdsNone nameFits climbs nodeFits childCount kidsFit allIn isProper faultOf stated fixedOf frontAt flagBytes entryOf recordBytes entriesBytes keptOf countOf anyExtended firstFault headerOf extensionHead contents eoiePart trailerOf frontOf extensionsOf bodyOf closedOf fileOf writesTree hasEoie treeFits bodyBytes fileBytes writeFile writeAll
 writing = writeAll 20 sha1 64 records paths nodes [] options (replicate 140 9)
 
 pub is-written : writeAll 20 sha1 64 records paths nodes [] options (replicate 140 9) .answer ≡ Done 2 137

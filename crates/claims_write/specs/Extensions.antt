@@ -9,10 +9,10 @@ use lib.ListN.{length, getD, length-append}
 use Rattle.laws.specs.Pick.{pick}
 use Rattle.laws.specs.Fill.{Fill, done, more}
 use Rattle.wire.specs.BigEndian.{bytesOf, length-bytes}
-use Rattle.grammar.specs.Extension.{Ext, ext, Framed, framed, Mandatory, sdir, TREE, optional, empty-sdir, Extension, Extensions, NoneSigned, none-left, another, LastSigned, last-signed}
+use Rattle.grammar.specs.Extension.{Ext, ext, Framed, framed, Mandatory, sdir, TREE, Allowed, optional, empty-sdir, Extension, Extensions, NoneSigned, none-left, another, LastSigned, last-signed}
 use Rattle.grammar.specs.File.{Some, this, other, Tells, it-is, it-is-not}
 use Rattle.claims_extension.specs.Said.{HasSdir}
-use Rattle.write.specs.File.{extensionHead, treeHead, sparsePart, eoiePart, extensionsOf}
+use Rattle.write.specs.File.{Extension as Written, extensionHead, extensionsFor, extensionsOf, eoiePart}
 use Rattle.claims_write.specs.Entries.{big}
 
 -- ---- THE MEANING
@@ -42,15 +42,37 @@ framed-here signature body l h = rw (append-assoc signature (bytesOf 4 (length b
 not-mandatory : (signature : List ℕ) → getD signature 0 0 < 97 → Mandatory signature → ⊥
 not-mandatory signature h m = omega (arith, m .least)
 
-tree-part : (writes : Bool) (tree : List ℕ) → (writes ≡ true → length tree < 2 ^ 32) → Fill Extension (treeHead writes (length (pick writes tree [])) ++ pick writes tree []) (pick writes (ext TREE tree ∷ []) [])
-unfolding treeHead
-tree-part false tree h = done
-tree-part true tree h = one (record { is-framed = framed-here TREE tree refl (h refl); is-allowed = optional (not-mandatory TREE (lit< tt)) })
+-- what a written extension means
+abbrev meant : Written → Ext
+meant e = ext (e .signature) (e .body)
 
-sparse-part : (sparse : Bool) → Fill Extension (sparsePart sparse) (pick sparse (ext sdir [] ∷ []) [])
-unfolding sparsePart
-sparse-part false = done
-sparse-part true = one (record { is-framed = subst (λ (b : List ℕ). Framed b (ext sdir [])) (append-nil (extensionHead sdir 0)) (framed-here sdir [] refl (lit< tt)); is-allowed = empty-sdir })
+abbrev meanings : List Written → List Ext
+meanings [] = []
+meanings (e ∷ es) = meant e ∷ meanings es
+
+-- extensions that may stand there and whose size has four bytes
+data Sound : List Written → Type 0 where
+  no-other : Sound []
+  one-sound : {e : Written} {es : List Written} → length (e .signature) ≡ 4 → length (e .body) < 2 ^ 32 → Allowed (meant e) → Sound es → Sound (e ∷ es)
+
+-- each list of them is spelled
+list-spelled : {es : List Written} → Sound es → Fill Extension (extensionsOf es) (meanings es)
+unfolding extensionsOf
+list-spelled no-other = done
+list-spelled (one-sound {e = e} l h allowed rest) = more (record { is-framed = framed-here (e .signature) (e .body) l h; is-allowed = allowed }) (list-spelled rest)
+
+-- TREE and `sdir` are sound
+sound-for : (writes : Bool) (tree : List ℕ) (sparse : Bool) → (writes ≡ true → length tree < 2 ^ 32) → Sound (extensionsFor writes tree sparse)
+sound-for true tree true h = one-sound refl (h refl) (optional (not-mandatory TREE (lit< tt))) (one-sound refl (lit< tt) empty-sdir no-other)
+sound-for true tree false h = one-sound refl (h refl) (optional (not-mandatory TREE (lit< tt))) no-other
+sound-for false tree true h = one-sound refl (lit< tt) empty-sdir no-other
+sound-for false tree false h = no-other
+
+meanings-for : (writes : Bool) (tree : List ℕ) (sparse : Bool) → meanings (extensionsFor writes tree sparse) ≡ pick writes (ext TREE tree ∷ []) [] ++ pick sparse (ext sdir [] ∷ []) []
+meanings-for true tree true = refl
+meanings-for true tree false = refl
+meanings-for false tree true = refl
+meanings-for false tree false = refl
 
 eoie-part : (id : ℕ) (hash : List ℕ → List ℕ) (has : Bool) (offset : ℕ) (toc : List ℕ) → id < 2 ^ 31 → length (hash toc) ≡ id
     → Fill Extension (eoiePart id hash has offset toc) (pick has (ext EOIE (bytesOf 4 offset ++ hash toc) ∷ []) [])
@@ -67,12 +89,13 @@ eoie-part id hash true offset toc h l =
 -- ---- all of them
 
 pub extensions-spelled : (id : ℕ) (hash : List ℕ → List ℕ) (writes : Bool) (tree : List ℕ) (sparse has : Bool) (offset : ℕ) (toc : List ℕ) → (writes ≡ true → length tree < 2 ^ 32) → id < 2 ^ 31 → length (hash toc) ≡ id
-    → Extensions (extensionsOf writes (pick writes tree []) sparse ++ eoiePart id hash has offset toc) (extensionsMeant writes tree sparse has (bytesOf 4 offset ++ hash toc))
-unfolding extensionsOf
+    → Extensions (extensionsOf (extensionsFor writes tree sparse) ++ eoiePart id hash has offset toc) (extensionsMeant writes tree sparse has (bytesOf 4 offset ++ hash toc))
 extensions-spelled id hash writes tree sparse has offset toc h k l =
-    let a : List ℕ = treeHead writes (length (pick writes tree [])) ++ pick writes tree [] in
-    rw (append-assoc a (sparsePart sparse) (eoiePart id hash has offset toc))
-    (fill-append (tree-part writes tree h) (fill-append (sparse-part sparse) (eoie-part id hash has offset toc k l)))
+    let first : Fill Extension (extensionsOf (extensionsFor writes tree sparse)) (pick writes (ext TREE tree ∷ []) [] ++ pick sparse (ext sdir [] ∷ []) [])
+    = subst (Fill Extension (extensionsOf (extensionsFor writes tree sparse))) (meanings-for writes tree sparse) (list-spelled (sound-for writes tree sparse h)) in
+    subst (Extensions (extensionsOf (extensionsFor writes tree sparse) ++ eoiePart id hash has offset toc))
+    (append-assoc (pick writes (ext TREE tree ∷ []) []) (pick sparse (ext sdir [] ∷ []) []) (pick has (ext EOIE (bytesOf 4 offset ++ hash toc) ∷ []) []))
+    (fill-append first (eoie-part id hash has offset toc k l))
 
 -- ---- the mark
 

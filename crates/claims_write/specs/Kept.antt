@@ -9,7 +9,7 @@ use native.Mathlib.Omega.{arith}
 use lib.ListN.{length, getElem?}
 use Rattle.laws.specs.Pick.{pick}
 use Rattle.laws.specs.Tests.{lt-or-ge}
-use Rattle.write.specs.Entries.{isGone}
+use Rattle.write_entries.specs.Entries.{isGone}
 use Rattle.claims_write.specs.Meaning.{keptFrom}
 
 pub at-map : {A : Type 0} (f : ℕ → A) (l : List ℕ) (j i : ℕ) → getElem? l j ≡ some i → getElem? (map f l) j ≡ some (f i)

@@ -22,10 +22,11 @@ use Rattle.proper.specs.Table.{Proper}
 use Rattle.tree_write.specs.Kids.{Mem, here, there}
 use Rattle.tree_write.specs.Tree.{countBytes, frontBytes, numberBytes, idBytes, headBytes, each, nodeBytes, treeBytes}
 use Rattle.write.specs.declared.Options.{Options}
-use Rattle.write.specs.Entries.{fixedOf, entryOf, recordBytes, beforeAt, entriesBytes, countOf, tableBytes}
-use Rattle.write.specs.Size.{length-entry}
-use Rattle.write.specs.File.{headerOf, versionOf, treeHead, sparsePart, contents, eoiePart, trailerOf, frontOf, extensionsOf, bodyOf, offsetOf, headSize, writesTree, hasEoie, treeOf, bodyBytes, fileBytes}
-use Rattle.write.specs.Parts.{file-parts, length-header, length-tree-head, length-sparse, length-eoie, length-trailer}
+use Rattle.write_entries.specs.Entries.{fixedOf, entryOf, recordBytes, beforeAt, entriesBytes, countOf, tableBytes}
+use Rattle.write_entries.specs.Size.{length-entry}
+use Rattle.write.specs.File.{headerOf, versionOf, contents, eoiePart, trailerOf, frontOf, extensionsOf, extensionsAsked, bodyOf, offsetOf, headSize, writesTree, hasEoie, bodyBytes, fileBytes}
+use Rattle.write.specs.Extensions.{length-extensions, signed-for, size-for}
+use Rattle.write.specs.Parts.{file-parts, length-header, length-eoie, length-trailer}
 use Rattle.claims_write.specs.Tree.{total, hits, total-zero, total-sum, total-same, kidsOf, kids-are, Level, root, below, level-within}
 use Rattle.claims_write.specs.Count.{walk, walk-inside, met-once}
 use Rattle.claims_write.specs.Sizes.{treeAsked, eoieAsked, fixedSize, entrySize, writtenSize, entriesSize, extensionsPlace, digitsWithin, digits, countSize, nodeSize, treeSize, extensionSize, sizeBeforeEoie, fileSize}
@@ -225,36 +226,27 @@ unfolding eoiePart
 no-eoie offset toc = refl
 
 module _ (rs ps ns nm : List ℕ) (o : Options) (proper : treeAsked o ≡ true → Proper depthLimit ns nm) where
-  tree-part : length (treeHead (writesTree o) (length (treeOf idSize depthLimit ns nm (writesTree o)))) + length (treeOf idSize depthLimit ns nm (writesTree o)) ≡ extensionSize (treeAsked o) (treeSize idSize ns nm)
-  unfolding treeOf headSize
-  tree-part = rw (writes-tree-is o) (by (treeAsked o) proper)
-    where
-      by : (t : Bool) → (t ≡ true → Proper depthLimit ns nm)
-          → length (treeHead t (length (pick t (treeBytes idSize depthLimit ns nm) []))) + length (pick t (treeBytes idSize depthLimit ns nm) []) ≡ extensionSize t (treeSize idSize ns nm)
-      by true p = omega (arith, length-tree-head true (length (treeBytes idSize depthLimit ns nm)), tree-length idSize depthLimit ns nm (lit≤ tt) (p refl))
-      by false p = omega (arith, length-tree-head false 0)
-
-  sparse-part : length (sparsePart (o .sparse)) ≡ extensionSize (o .sparse) 0
+  extensions-part : length (extensionsOf (extensionsAsked idSize depthLimit ns nm o)) ≡ extensionSize (treeAsked o) (treeSize idSize ns nm) + extensionSize (o .sparse) 0
   unfolding headSize
-  sparse-part = length-sparse (o .sparse)
+  extensions-part = length-extensions (signed-for (writesTree o) (treeBytes idSize depthLimit ns nm) (o .sparse)) ∙ size-for (writesTree o) (treeBytes idSize depthLimit ns nm) (o .sparse) ∙ rw (writes-tree-is o) (by (treeAsked o) (o .sparse) proper)
+    where
+      by : (t s : Bool) → (t ≡ true → Proper depthLimit ns nm)
+          → pick t 8 0 + length (pick t (treeBytes idSize depthLimit ns nm) []) + pick s 8 0 ≡ extensionSize t (treeSize idSize ns nm) + extensionSize s 0
+      by true s p = omega (arith, tree-length idSize depthLimit ns nm (lit≤ tt) (p refl))
+      by false s p = refl
 
   pub body-length : length (bodyBytes idSize depthLimit rs ps ns nm o) ≡ sizeBeforeEoie idSize rs ps ns nm o
-  unfolding bodyBytes bodyOf frontOf extensionsOf
+  unfolding bodyBytes bodyOf frontOf
   body-length =
       let h : List ℕ = headerOf (versionOf rs) (countOf rs (recordsIn rs) 0) in
-      let t : List ℕ = treeOf idSize depthLimit ns nm (writesTree o) in
-      let th : List ℕ = treeHead (writesTree o) (length t) in
-      let s : List ℕ = sparsePart (o .sparse) in
+      let x : List ℕ = extensionsOf (extensionsAsked idSize depthLimit ns nm o) in
       omega (
         arith,
-        length-append (h ++ tableBytes idSize rs ps) ((th ++ t) ++ s),
+        length-append (h ++ tableBytes idSize rs ps) x,
         length-append h (tableBytes idSize rs ps),
-        length-append (th ++ t) s,
-        length-append th t,
         length-header (versionOf rs) (countOf rs (recordsIn rs) 0),
         table-length idSize rs ps (lit≤ tt),
-        tree-part,
-        sparse-part,
+        extensions-part,
       )
 
   eoie-part : (offset : ℕ) (toc : List ℕ) → length (eoiePart idSize sha1 (hasEoie (recordsIn rs) o) offset toc) ≡ extensionSize (eoieAsked rs o) (4 + idSize)
@@ -267,7 +259,7 @@ module _ (rs ps ns nm : List ℕ) (o : Options) (proper : treeAsked o ≡ true �
   pub file-length : length (fileBytes idSize sha1 depthLimit rs ps ns nm o) ≡ fileSize idSize rs ps ns nm o
   file-length =
       let body : List ℕ = bodyBytes idSize depthLimit rs ps ns nm o in
-      let toc : List ℕ = contents (writesTree o) (length (treeOf idSize depthLimit ns nm (writesTree o))) (o .sparse) in
+      let toc : List ℕ = contents (extensionsAsked idSize depthLimit ns nm o) in
       let eoie : List ℕ = eoiePart idSize sha1 (hasEoie (recordsIn rs) o) (offsetOf idSize rs ps) toc in
       let last : List ℕ = trailerOf idSize sha1 (o .unhashed) (body ++ eoie) in
       ap length (file-parts idSize sha1 depthLimit rs ps ns nm o)

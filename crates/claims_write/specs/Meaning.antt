@@ -6,11 +6,12 @@ use mathlib.Core.Bool.{true, false}
 use mathlib.Core.List.{List, [], _∷_, map}
 use lib.ListN.{length}
 use Rattle.laws.specs.Pick.{pick}
+use Rattle.format.specs.Format.{idSize}
 use Rattle.entry.specs.Flags.{bit, extended, toStorage, keepFlags}
 use Rattle.entry.specs.Record.{recordsIn, fieldAt, modeAt, flagsAt, stageAt, idAt, liesInside, pathAt}
 use Rattle.entry.specs.Stat.{statAt}
 use Rattle.grammar.specs.Entry.{Stat, Meaning, meaning, keptMode, NoNul, fullField}
-use Rattle.write.specs.Entries.{isGone}
+use Rattle.write_entries.specs.Entries.{isGone}
 
 -- ---- one record
 
@@ -87,7 +88,7 @@ pub record SameEntry (rs ps : List ℕ) (i : ℕ) (rs′ ps′ : List ℕ) (j : 
   pub there : j < recordsIn rs′
   pub stat : statAt rs′ j ≡ statAt rs i
   pub mode : modeAt rs′ j ≡ modeAt rs i
-  pub id : idAt 20 rs′ j ≡ idAt 20 rs i
+  pub id : idAt idSize rs′ j ≡ idAt idSize rs i
   pub flags : flagsAt rs′ j ≡ keepFlags (flagsAt rs i)
   pub stage : stageAt rs′ j ≡ stageAt rs i
   pub inside : liesInside rs′ ps′ j ≡ true

@@ -24,8 +24,8 @@ use Rattle.file.specs.Read.{Outcome as ReadOutcome, extensionsInto, entriesInto
 use Rattle.file.specs.declared.Answer.the-variants.{Read}
 use Rattle.write.specs.declared.Options.{Options}
 use Rattle.write.specs.declared.Answer.the-variants.{Done}
-use Rattle.write.specs.Entries.{isGone, faultOf, stated, fixedOf, frontAt, flagBytes, entryOf, recordBytes, entriesBytes, keptOf, countOf, anyExtended, firstFault}
-use Rattle.write.specs.File.{headerOf, extensionHead, treeHead, sparsePart, contents, eoiePart, trailerOf, bodyOf, extensionsOf, closedOf, fileOf, writesTree, hasEoie, treeOf, treeFits, bodyBytes, fileBytes, Outcome, writeFile, writeAll}
+use Rattle.write_entries.specs.Entries.{isGone, faultOf, stated, fixedOf, frontAt, flagBytes, entryOf, recordBytes, entriesBytes, keptOf, countOf, anyExtended, firstFault}
+use Rattle.write.specs.File.{headerOf, extensionHead, contents, eoiePart, trailerOf, bodyOf, extensionsOf, closedOf, fileOf, writesTree, hasEoie, treeFits, bodyBytes, fileBytes, Outcome, writeFile, writeAll}
 use Rattle.write.specs.File as write
 use Rattle.claims_write.specs.Meaning.{PathsEnd, MarksFit, WritableTable, NoneRemoved, SameEntry}
 
@@ -37,7 +37,7 @@ plain = record { tree = false; cache = false; eoie = false; sparse = false; unha
 
 -- a table over its paths, written into so many bytes
 unfoldable pub writing : List ℕ → List ℕ → ℕ → Outcome
-unfolding beAt bytesOf fieldAt liesInside pathAt faultOf stated fixedOf frontAt flagBytes entryOf recordBytes entriesBytes keptOf countOf anyExtended firstFault headerOf extensionHead treeHead sparsePart contents eoiePart trailerOf write.frontOf extensionsOf bodyOf closedOf fileOf writesTree hasEoie treeOf treeFits bodyBytes fileBytes writeFile writeAll
+unfolding beAt bytesOf fieldAt liesInside pathAt faultOf stated fixedOf frontAt flagBytes entryOf recordBytes entriesBytes keptOf countOf anyExtended firstFault headerOf extensionHead contents eoiePart trailerOf write.frontOf extensionsOf bodyOf closedOf fileOf writesTree hasEoie treeFits bodyBytes fileBytes writeFile writeAll
 writing rs ps size = writeAll idSize sha1 depthLimit rs ps [] [] plain (replicate size 9)
 
 -- and what the reader makes of them, with stores that are large enough

@@ -11,6 +11,7 @@ use lib.Seq.{take-at, drop-at}
 use Rattle.laws.specs.Pick.{pick}
 use Rattle.laws.specs.Read.{Begins}
 use Rattle.laws.specs.Times.{Times, done, more}
+use Rattle.format.specs.Format.{depthLimit, idSize}
 use Rattle.sha1.specs.Sha1.{sha1}
 use Rattle.entry.specs.Record.{recordsIn}
 use Rattle.grammar.specs.Entry.{Meaning, start, Entries}
@@ -28,7 +29,7 @@ use Rattle.claims_tree.specs.Said.{lent, KeepsWithinDepth, HasRoom}
 use Rattle.claims.specs.Premises.{Slices, trailer, GoodTrailer, zeros, hashed}
 use Rattle.claims.specs.Claims.{LastTREE, TreeFits, Renders, stores-are-the-meaning}
 use Rattle.write.specs.declared.Options.{Options}
-use Rattle.write.specs.Entries.{tableBytes}
+use Rattle.write_entries.specs.Entries.{tableBytes}
 use Rattle.write.specs.File.{headerOf, trailerOf, fileOf, writesTree, bodyBytes, fileBytes, most, versionOf as versionWritten}
 use Rattle.write.specs.Parts.{length-header, length-trailer}
 use Rattle.claims_write.specs.Meaning.{meaningOf, keptOf, meaningsOf, PathsEnd}
@@ -78,7 +79,7 @@ space-of h b c t n e f =
 
 -- where TREE is written, the walk of its body stays within the depth limit and the nodes lent
 abbrev pub TreeRoom : List ℕ → List ℕ → Options → List ℕ → Type 0
-TreeRoom ns nm o nodes′ = writesTree o ≡ true → KeepsWithinDepth 20 (treeBody ns nm) 64 × HasRoom 20 (treeBody ns nm) (lent nodes′)
+TreeRoom ns nm o nodes′ = writesTree o ≡ true → KeepsWithinDepth idSize (treeBody ns nm) depthLimit × HasRoom idSize (treeBody ns nm) (lent nodes′)
 
 -- ---- the written file, as the reader's claims want it
 
@@ -87,79 +88,79 @@ module _ (rs ps ns nm : List ℕ) (o : Options) where
   w = written rs ps ns nm o
 
   abbrev ms : List Meaning
-  ms = meaningsOf 20 rs ps
+  ms = meaningsOf idSize rs ps
 
   pub good-trailer : GoodTrailer w
   unfolding fileBytes fileOf trailerOf
   good-trailer = by (o .unhashed) (length-trailer (o .unhashed) (before rs ps ns nm o))
     where
-      by : (t : Bool) → length (pick t (replicate 20 0) (sha1 (before rs ps ns nm o))) ≡ 20 → GoodTrailer (before rs ps ns nm o ++ pick t (replicate 20 0) (sha1 (before rs ps ns nm o)))
+      by : (t : Bool) → length (pick t (replicate idSize 0) (sha1 (before rs ps ns nm o))) ≡ idSize → GoodTrailer (before rs ps ns nm o ++ pick t (replicate idSize 0) (sha1 (before rs ps ns nm o)))
       by true l =
           let b : List ℕ = before rs ps ns nm o in
-          let k : length b ≡ length (b ++ replicate 20 0) - 20 = omega (arith, length-append {A = ℕ} b (replicate 20 0)) in
-          zeros (drop-at b (replicate 20 0) (length (b ++ replicate 20 0) - 20) k)
+          let k : length b ≡ length (b ++ replicate idSize 0) - idSize = omega (arith, length-append {A = ℕ} b (replicate idSize 0)) in
+          zeros (drop-at b (replicate idSize 0) (length (b ++ replicate idSize 0) - idSize) k)
       by false l =
           let b : List ℕ = before rs ps ns nm o in
-          let k : length b ≡ length (b ++ sha1 b) - 20 = omega (arith, length-append b (sha1 b)) in
-          hashed (drop-at b (sha1 b) (length (b ++ sha1 b) - 20) k ∙ ap sha1 (sym (take-at b (sha1 b) (length (b ++ sha1 b) - 20) k)))
+          let k : length b ≡ length (b ++ sha1 b) - idSize = omega (arith, length-append b (sha1 b)) in
+          hashed (drop-at b (sha1 b) (length (b ++ sha1 b) - idSize) k ∙ ap sha1 (sym (take-at b (sha1 b) (length (b ++ sha1 b) - idSize) k)))
 
-  module _ (few : recordsIn rs ≤ most) (short : length (bodyBytes 20 64 rs ps ns nm o) ≤ most) (ends : PathsEnd rs ps) where
-    spelled-w : File 20 w (indexOf rs ps ns nm o)
+  module _ (few : recordsIn rs ≤ most) (short : length (bodyBytes idSize depthLimit rs ps ns nm o) ≤ most) (ends : PathsEnd rs ps) where
+    spelled-w : File idSize w (indexOf rs ps ns nm o)
     spelled-w = file-spelled rs ps ns nm o few short ends
 
-    in-space : Spells 20 (versionOf w) (countOf w) (space 20 w) (indexOf rs ps ns nm o)
+    in-space : Spells idSize (versionOf w) (countOf w) (space idSize w) (indexOf rs ps ns nm o)
     in-space = spelled-in-space spelled-w
 
-    joins-w : space 20 w ≡ tableBytes 20 rs ps ++ behindEntries rs ps ns nm o
+    joins-w : space idSize w ≡ tableBytes idSize rs ps ++ behindEntries rs ps ns nm o
     joins-w =
-        ap (λ (l : List ℕ). space 20 l) (written-parts rs ps ns nm o)
-        ∙ space-of (headerOf (versionWritten rs) (count rs ps ns nm o)) (tableBytes 20 rs ps) (behindEntries rs ps ns nm o) (trailerOf 20 sha1 (o .unhashed) (before rs ps ns nm o)) 20
+        ap (λ (l : List ℕ). space idSize l) (written-parts rs ps ns nm o)
+        ∙ space-of (headerOf (versionWritten rs) (count rs ps ns nm o)) (tableBytes idSize rs ps) (behindEntries rs ps ns nm o) (trailerOf idSize sha1 (o .unhashed) (before rs ps ns nm o)) idSize
         (length-header (versionWritten rs) (count rs ps ns nm o)) (length-trailer (o .unhashed) (before rs ps ns nm o))
 
-    entries-w : Entries 20 (versionOf w) start (countOf w) (tableBytes 20 rs ps) ms
+    entries-w : Entries idSize (versionOf w) start (countOf w) (tableBytes idSize rs ps) ms
     entries-w =
         let x = entries-here rs ps ns nm o few short ends in
         let v : versionWritten rs ≡ versionOf w = version-said in-space in
         let c : count rs ps ns nm o ≡ countOf w = sym (spelled-length x) ∙ count-said in-space in
-        subst (λ (j : ℕ). Entries 20 (versionOf w) start j (tableBytes 20 rs ps) ms) c (subst (λ (j : ℕ). Entries 20 j start (count rs ps ns nm o) (tableBytes 20 rs ps) ms) v x)
+        subst (λ (j : ℕ). Entries idSize (versionOf w) start j (tableBytes idSize rs ps) ms) c (subst (λ (j : ℕ). Entries idSize j start (count rs ps ns nm o) (tableBytes idSize rs ps) ms) v x)
 
     -- whatever TREE is the last behind the entries is the one that was written
-    last-written : {place : ℕ} {body : List ℕ} → LastTREE w place body → LastSigned TREE (headerLength + length (tableBytes 20 rs ps)) (extensionsHere rs ps ns nm o) place body
+    last-written : {place : ℕ} {body : List ℕ} → LastTREE w place body → LastSigned TREE (headerLength + length (tableBytes idSize rs ps)) (extensionsHere rs ps ns nm o) place body
     last-written {place} {body} l =
-        let (e, f, g) = entries-unique 20 (versionOf w) start (countOf w) (space 20 w) (l .ms) ms (l .c) (behindEntries rs ps ns nm o) (l .b, l .joins, l .entries) (tableBytes 20 rs ps, joins-w, entries-w) in
+        let (e, f, g) = entries-unique idSize (versionOf w) start (countOf w) (space idSize w) (l .ms) ms (l .c) (behindEntries rs ps ns nm o) (l .b, l .joins, l .entries) (tableBytes idSize rs ps, joins-w, entries-w) in
         let x : Extensions (behindEntries rs ps ns nm o) (l .es) = subst (λ (c : List ℕ). Extensions c (l .es)) f (l .extensions) in
         let q : l .es ≡ extensionsHere rs ps ns nm o = extensions-unique (behindEntries rs ps ns nm o) (l .es) (extensionsHere rs ps ns nm o) x (extensions-here rs ps ns nm o few short) in
-        subst (λ (es : List Ext). LastSigned TREE (headerLength + length (tableBytes 20 rs ps)) es place body) q (subst (λ (b : List ℕ). LastSigned TREE (headerLength + length b) (l .es) place body) g (l .last))
+        subst (λ (es : List Ext). LastSigned TREE (headerLength + length (tableBytes idSize rs ps)) es place body) q (subst (λ (b : List ℕ). LastSigned TREE (headerLength + length b) (l .es) place body) g (l .last))
 
     tree-fits : (nodes′ : List ℕ) → TreeRoom ns nm o nodes′ → TreeFits w nodes′
     tree-fits nodes′ room place body l = by (writesTree o) room (last-written l)
       where
-        by : (t : Bool) → (t ≡ true → KeepsWithinDepth 20 (treeBody ns nm) 64 × HasRoom 20 (treeBody ns nm) (lent nodes′))
-            → LastSigned TREE (headerLength + length (tableBytes 20 rs ps)) (extensionsMeant t (treeBody ns nm) (o .sparse) (has rs ps ns nm o) (eoieBody rs ps ns nm o)) place body
-            → KeepsWithinDepth 20 body 64 × HasRoom 20 body (lent nodes′)
+        by : (t : Bool) → (t ≡ true → KeepsWithinDepth idSize (treeBody ns nm) depthLimit × HasRoom idSize (treeBody ns nm) (lent nodes′))
+            → LastSigned TREE (headerLength + length (tableBytes idSize rs ps)) (extensionsMeant t (treeBody ns nm) (o .sparse) (has rs ps ns nm o) (eoieBody rs ps ns nm o)) place body
+            → KeepsWithinDepth idSize body depthLimit × HasRoom idSize body (lent nodes′)
         by false k x = absurd (none-not-last (no-tree (treeBody ns nm) (o .sparse) (has rs ps ns nm o) (eoieBody rs ps ns nm o)) x)
         by true k x =
-            let (p, q) = last-unique (last-tree (headerLength + length (tableBytes 20 rs ps)) (treeBody ns nm) (o .sparse) (has rs ps ns nm o) (eoieBody rs ps ns nm o)) x in
-            subst (λ (b : List ℕ). KeepsWithinDepth 20 b 64 × HasRoom 20 b (lent nodes′)) q (k refl)
+            let (p, q) = last-unique (last-tree (headerLength + length (tableBytes idSize rs ps)) (treeBody ns nm) (o .sparse) (has rs ps ns nm o) (eoieBody rs ps ns nm o)) x in
+            subst (λ (b : List ℕ). KeepsWithinDepth idSize b depthLimit × HasRoom idSize b (lent nodes′)) q (k refl)
 
     module _ (records′ paths′ nodes′ : List ℕ) (slices : Slices w paths′ nodes′) (room : Fits records′ paths′ (length (keptOf rs)) ms) (tree-room : TreeRoom ns nm o nodes′) where
       count-w : countOf w ≡ length (keptOf rs)
-      count-w = sym (count-said in-space) ∙ length-map (keptOf rs) (meaningOf 20 rs ps)
+      count-w = sym (count-said in-space) ∙ length-map (keptOf rs) (meaningOf idSize rs ps)
 
-      room-w : RoomFor 20 (versionOf w) (space 20 w) (countOf w) records′ paths′
+      room-w : RoomFor idSize (versionOf w) (space idSize w) (countOf w) records′ paths′
       room-w =
-          room-for 20 (versionOf w) (space 20 w) (countOf w) records′ paths′ (tableBytes 20 rs ps) (behindEntries rs ps ns nm o) ms joins-w entries-w
+          room-for idSize (versionOf w) (space idSize w) (countOf w) records′ paths′ (tableBytes idSize rs ps) (behindEntries rs ps ns nm o) ms joins-w entries-w
           (subst (λ (k : ℕ). Fits records′ paths′ k ms) (sym count-w) room)
 
-      pub renders-w : Renders w records′ paths′ nodes′ (indexOf rs ps ns nm o) (readFile 20 64 w records′ paths′ nodes′)
+      pub renders-w : Renders w records′ paths′ nodes′ (indexOf rs ps ns nm o) (readFile idSize depthLimit w records′ paths′ nodes′)
       renders-w = stores-are-the-meaning w records′ paths′ nodes′ slices good-trailer room-w (tree-fits nodes′ tree-room) (indexOf rs ps ns nm o) spelled-w
 
-      bytes-w : Bytes (tableBytes 20 rs ps)
+      bytes-w : Bytes (tableBytes idSize rs ps)
       bytes-w =
           let h : List ℕ = headerOf (versionWritten rs) (count rs ps ns nm o) in
-          let rest : List ℕ = behindEntries rs ps ns nm o ++ trailerOf 20 sha1 (o .unhashed) (before rs ps ns nm o) in
-          let b : Bytes (h ++ (tableBytes 20 rs ps ++ rest)) = subst Bytes (written-parts rs ps ns nm o) (slices .bytes) in
-          bytes-left (tableBytes 20 rs ps) rest (bytes-right h (tableBytes 20 rs ps ++ rest) b)
+          let rest : List ℕ = behindEntries rs ps ns nm o ++ trailerOf idSize sha1 (o .unhashed) (before rs ps ns nm o) in
+          let b : Bytes (h ++ (tableBytes idSize rs ps ++ rest)) = subst Bytes (written-parts rs ps ns nm o) (slices .bytes) in
+          bytes-left (tableBytes idSize rs ps) rest (bytes-right h (tableBytes idSize rs ps ++ rest) b)
 
-      pub shown-w : EachShown (filled records′ (recordsBytes 20 0 ms)) (filled paths′ (pathsBytes ms)) ms
-      shown-w = rendered-fields 20 (lit≤ tt) records′ paths′ ms (spelled-each-fits entries-w bytes-w) (omega (arith, room .paths, slices .paths))
+      pub shown-w : EachShown (filled records′ (recordsBytes idSize 0 ms)) (filled paths′ (pathsBytes ms)) ms
+      shown-w = rendered-fields idSize (lit≤ tt) records′ paths′ ms (spelled-each-fits entries-w bytes-w) (omega (arith, room .paths, slices .paths))

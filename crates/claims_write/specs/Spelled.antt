@@ -12,6 +12,7 @@ use lib.Seq.{take-at}
 use Rattle.laws.specs.Pick.{pick}
 use Rattle.laws.specs.Tests.{Less, less, not-less, less?}
 use Rattle.wire.specs.BigEndian.{bytesOf}
+use Rattle.format.specs.Format.{depthLimit, idSize}
 use Rattle.sha1.specs.Sha1.{sha1}
 use Rattle.entry.specs.Record.{recordsIn}
 use Rattle.grammar.specs.Entry.{start, Entries}
@@ -24,35 +25,36 @@ use Rattle.claims_extension.specs.Said.{either-marks}
 use Rattle.tree_write.specs.Tree.{treeBytes}
 use Rattle.write.specs.declared.Options.{Options}
 use Rattle.write.specs.declared.Answer.the-variants.{Done, PathOutside, NotProper, TooLarge, ShortOutput}
-use Rattle.write.specs.Entries.{isGone, First, found, nowhere, firstFault, onFirst, keptOf, countOf, anyExtended, tableBytes}
-use Rattle.write.specs.File.{headerOf, versionOf, treeHead, sparsePart, contents, eoiePart, trailerOf, frontOf, extensionsOf, bodyOf, offsetOf, closedOf, fileOf, writesTree, hasEoie, treeOf, treeFits, bodyBytes, fileBytes, Outcome, outcome, most, writeFile, writeAll}
+use Rattle.write_entries.specs.Entries.{isGone, First, found, nowhere, firstFault, onFirst, keptOf, countOf, anyExtended, tableBytes}
+use Rattle.write.specs.File.{headerOf, versionOf, contents, eoiePart, trailerOf, frontOf, extensionsOf, extensionsAsked, bodyOf, offsetOf, closedOf, fileOf, writesTree, hasEoie, treeFits, bodyBytes, fileBytes, Outcome, outcome, most, writeFile, writeAll}
 use Rattle.sha1.specs.Length.{length-sha1}
 use Rattle.write.specs.Parts.{length-trailer}
 use Rattle.claims_write.specs.Meaning.{meaningsOf, PathsEnd}
 use Rattle.claims_write.specs.Entries.{big, entries-spelled}
+use Rattle.write.specs.Extensions.{length-extensions, signed-for, size-for}
 use Rattle.claims_write.specs.Extensions.{extensionsMeant, extensions-spelled, marks-sdir, last-tree, no-tree as no-TREE}
 
 -- ---- THE MEANING
 
 -- TREE's body, if it is written
 abbrev pub treeBody : List ℕ → List ℕ → List ℕ
-treeBody ns nm = treeBytes 20 64 ns nm
+treeBody ns nm = treeBytes idSize depthLimit ns nm
 
 -- where TREE's body starts: behind header, entries, signature and size
 abbrev pub treePlace : List ℕ → List ℕ → ℕ
-treePlace rs ps = offsetOf 20 rs ps + 8
+treePlace rs ps = offsetOf idSize rs ps + 8
 
 -- the tree that is meant: the one that TREE's body spells
 abbrev pub treeMeant : List ℕ → List ℕ → List ℕ → List ℕ → Options → Option Tree
-treeMeant rs ps ns nm o = pick (writesTree o) (readTree 20 (treePlace rs ps) (treeBody ns nm)) none
+treeMeant rs ps ns nm o = pick (writesTree o) (readTree idSize (treePlace rs ps) (treeBody ns nm)) none
 
 -- the index that a record table and a node table mean: sparse if so asked, or by an entry that is a directory
 abbrev pub indexOf : List ℕ → List ℕ → List ℕ → List ℕ → Options → Index
 indexOf rs ps ns nm o =
     record {
       version = versionOf rs;
-      sparse = pick (o .sparse) true (sparseBy false (meaningsOf 20 rs ps));
-      entries = meaningsOf 20 rs ps;
+      sparse = pick (o .sparse) true (sparseBy false (meaningsOf idSize rs ps));
+      entries = meaningsOf idSize rs ps;
       tree = treeMeant rs ps ns nm o;
     }
 
@@ -60,13 +62,13 @@ indexOf rs ps ns nm o =
 
 -- the bytes of the file
 abbrev pub written : List ℕ → List ℕ → List ℕ → List ℕ → Options → List ℕ
-written rs ps ns nm o = fileBytes 20 sha1 64 rs ps ns nm o
+written rs ps ns nm o = fileBytes idSize sha1 depthLimit rs ps ns nm o
 
 pub record Done? (rs ps ns nm : List ℕ) (o : Options) (out : List ℕ) (version size : ℕ) (after : List ℕ) : Type 0 where
   pub inside : firstFault rs ps (recordsIn rs) 0 ≡ nowhere
-  pub proper : treeFits 64 ns nm (writesTree o) ≡ true
+  pub proper : treeFits depthLimit ns nm (writesTree o) ≡ true
   pub few : recordsIn rs ≤ most
-  pub short : length (bodyBytes 20 64 rs ps ns nm o) ≤ most
+  pub short : length (bodyBytes idSize depthLimit rs ps ns nm o) ≤ most
   pub version-is : version ≡ versionOf rs
   pub size-is : size ≡ length (written rs ps ns nm o)
   pub room : size ≤ length out
@@ -74,22 +76,22 @@ pub record Done? (rs ps ns nm : List ℕ) (o : Options) (out : List ℕ) (versio
 
 module _ (rs ps ns nm : List ℕ) (o : Options) (out : List ℕ) where
   abbrev writing : Outcome
-  writing = writeAll 20 sha1 64 rs ps ns nm o out
+  writing = writeAll idSize sha1 depthLimit rs ps ns nm o out
 
   pub done-says : (version size : ℕ) → writing .answer ≡ Done version size → Done? rs ps ns nm o out version size (writing .out)
   unfolding writeAll writeFile
-  done-says version size e = one (firstFault rs ps (recordsIn rs) 0) refl (treeFits 64 ns nm (writesTree o)) refl (less? most (recordsIn rs)) (less? most (length body)) (less? (length out) (length whole)) e
+  done-says version size e = one (firstFault rs ps (recordsIn rs) 0) refl (treeFits depthLimit ns nm (writesTree o)) refl (less? most (recordsIn rs)) (less? most (length body)) (less? (length out) (length whole)) e
     where
       body : List ℕ
-      body = bodyBytes 20 64 rs ps ns nm o
+      body = bodyBytes idSize depthLimit rs ps ns nm o
 
       whole : List ℕ
-      whole = fileBytes 20 sha1 64 rs ps ns nm o
+      whole = fileBytes idSize sha1 depthLimit rs ps ns nm o
 
       last : Bool → Bool → Bool → Outcome
       last a b c = pick a (outcome TooLarge out) (pick b (outcome TooLarge out) (pick c (outcome (ShortOutput (length whole)) out) (outcome (Done (versionOf rs) (length whole)) (whole ++ drop (length whole) out))))
 
-      one : (f : First) → firstFault rs ps (recordsIn rs) 0 ≡ f → (t : Bool) → treeFits 64 ns nm (writesTree o) ≡ t → {a b c : Bool} → Less most (recordsIn rs) a → Less most (length body) b → Less (length out) (length whole) c
+      one : (f : First) → firstFault rs ps (recordsIn rs) 0 ≡ f → (t : Bool) → treeFits depthLimit ns nm (writesTree o) ≡ t → {a b c : Bool} → Less most (recordsIn rs) a → Less most (length body) b → Less (length out) (length whole) c
           → (onFirst f (λ i. outcome (PathOutside i) out) (pick t (last a b c) (outcome NotProper out))) .answer ≡ Done version size
           → Done? rs ps ns nm o out version size ((onFirst f (λ i. outcome (PathOutside i) out) (pick t (last a b c) (outcome NotProper out))) .out)
       one (found i) ef t et x y z q = let w : _≡_ {A = ℕ} 0 1 = cc in absurd (omega arith)
@@ -138,90 +140,87 @@ module _ (rs ps ns nm : List ℕ) (o : Options) where
   has = hasEoie records o
 
   abbrev pub toc : List ℕ
-  toc = contents (writesTree o) (length (treeOf 20 64 ns nm (writesTree o))) (o .sparse)
+  toc = contents (extensionsAsked idSize depthLimit ns nm o)
 
   -- EOIE's body: where the extensions start, and the hash of their signatures and sizes
   abbrev pub eoieBody : List ℕ
-  eoieBody = bytesOf 4 (offsetOf 20 rs ps) ++ sha1 toc
+  eoieBody = bytesOf 4 (offsetOf idSize rs ps) ++ sha1 toc
 
   abbrev pub extensionsHere : List Ext
   extensionsHere = extensionsMeant (writesTree o) (treeBody ns nm) (o .sparse) has eoieBody
 
   -- all but the trailer
   abbrev pub before : List ℕ
-  before = closedOf 20 sha1 (bodyBytes 20 64 rs ps ns nm o) has (offsetOf 20 rs ps) toc
+  before = closedOf idSize sha1 (bodyBytes idSize depthLimit rs ps ns nm o) has (offsetOf idSize rs ps) toc
 
   -- what stands between the entries and the trailer
   abbrev pub behindEntries : List ℕ
-  behindEntries = extensionsOf (writesTree o) (treeOf 20 64 ns nm (writesTree o)) (o .sparse) ++ eoiePart 20 sha1 has (offsetOf 20 rs ps) toc
+  behindEntries = extensionsOf (extensionsAsked idSize depthLimit ns nm o) ++ eoiePart idSize sha1 has (offsetOf idSize rs ps) toc
 
   abbrev pub count : ℕ
   count = countOf rs records 0
 
-  pub tree-small : length (bodyBytes 20 64 rs ps ns nm o) ≤ most → writesTree o ≡ true → length (treeBody ns nm) < 2 ^ 32
-  unfolding bodyBytes bodyOf extensionsOf treeOf
+  pub tree-small : length (bodyBytes idSize depthLimit rs ps ns nm o) ≤ most → writesTree o ≡ true → length (treeBody ns nm) < 2 ^ 32
+  unfolding bodyBytes bodyOf
   tree-small h e =
-      let front : List ℕ = frontOf 20 rs ps (versionOf rs) count in
+      let front : List ℕ = frontOf idSize rs ps (versionOf rs) count in
       let part : Bool → List ℕ = λ w. pick w (treeBody ns nm) [] in
-      let tree : List ℕ = part (writesTree o) in
-      let head : List ℕ = treeHead (writesTree o) (length tree) in
-      let same : tree ≡ treeBody ns nm = ap part e in
-      omega (arith, length-append front ((head ++ tree) ++ sparsePart (o .sparse)), length-append (head ++ tree) (sparsePart (o .sparse)), length-append head tree, ap length same)
+      let same : part (writesTree o) ≡ treeBody ns nm = ap part e in
+      omega (arith, length-append front (extensionsOf (extensionsAsked idSize depthLimit ns nm o)), length-extensions (signed-for (writesTree o) (treeBody ns nm) (o .sparse)), size-for (writesTree o) (treeBody ns nm) (o .sparse), ap length same)
 
-  cache-tree : CacheTree 20 (headerLength + length (tableBytes 20 rs ps)) extensionsHere (treeMeant rs ps ns nm o)
+  cache-tree : CacheTree idSize (headerLength + length (tableBytes idSize rs ps)) extensionsHere (treeMeant rs ps ns nm o)
   cache-tree = by (writesTree o)
     where
-      of : {t : Option Tree} → SaysTree 20 (headerLength + length (tableBytes 20 rs ps) + 8) (treeBody ns nm) t
-          → CacheTree 20 (headerLength + length (tableBytes 20 rs ps)) (extensionsMeant true (treeBody ns nm) (o .sparse) has eoieBody) t
-      of (is-tree x) = spelled (last-tree (headerLength + length (tableBytes 20 rs ps)) (treeBody ns nm) (o .sparse) has eoieBody) x
-      of (no-tree f) = malformed (last-tree (headerLength + length (tableBytes 20 rs ps)) (treeBody ns nm) (o .sparse) has eoieBody) f
+      of : {t : Option Tree} → SaysTree idSize (headerLength + length (tableBytes idSize rs ps) + 8) (treeBody ns nm) t
+          → CacheTree idSize (headerLength + length (tableBytes idSize rs ps)) (extensionsMeant true (treeBody ns nm) (o .sparse) has eoieBody) t
+      of (is-tree x) = spelled (last-tree (headerLength + length (tableBytes idSize rs ps)) (treeBody ns nm) (o .sparse) has eoieBody) x
+      of (no-tree f) = malformed (last-tree (headerLength + length (tableBytes idSize rs ps)) (treeBody ns nm) (o .sparse) has eoieBody) f
 
-      by : (w : Bool) → CacheTree 20 (headerLength + length (tableBytes 20 rs ps)) (extensionsMeant w (treeBody ns nm) (o .sparse) has eoieBody) (pick w (readTree 20 (treePlace rs ps) (treeBody ns nm)) none)
-      by true = of (tree-says 20 (treePlace rs ps) (treeBody ns nm))
+      by : (w : Bool) → CacheTree idSize (headerLength + length (tableBytes idSize rs ps)) (extensionsMeant w (treeBody ns nm) (o .sparse) has eoieBody) (pick w (readTree idSize (treePlace rs ps) (treeBody ns nm)) none)
+      by true = of (tree-says idSize (treePlace rs ps) (treeBody ns nm))
       by false = absent (no-TREE (treeBody ns nm) (o .sparse) has eoieBody)
 
   -- the bytes by their parts
-  pub written-parts : written rs ps ns nm o ≡ headerOf (versionOf rs) count ++ (tableBytes 20 rs ps ++ (behindEntries ++ trailerOf 20 sha1 (o .unhashed) before))
+  pub written-parts : written rs ps ns nm o ≡ headerOf (versionOf rs) count ++ (tableBytes idSize rs ps ++ (behindEntries ++ trailerOf idSize sha1 (o .unhashed) before))
   unfolding fileBytes fileOf closedOf bodyBytes bodyOf frontOf
   written-parts =
       let h : List ℕ = headerOf (versionOf rs) count in
-      let t : List ℕ = tableBytes 20 rs ps in
-      let x : List ℕ = extensionsOf (writesTree o) (treeOf 20 64 ns nm (writesTree o)) (o .sparse) in
-      let e : List ℕ = eoiePart 20 sha1 has (offsetOf 20 rs ps) toc in
-      let r : List ℕ = trailerOf 20 sha1 (o .unhashed) (((h ++ t) ++ x) ++ e) in
+      let t : List ℕ = tableBytes idSize rs ps in
+      let x : List ℕ = extensionsOf (extensionsAsked idSize depthLimit ns nm o) in
+      let e : List ℕ = eoiePart idSize sha1 has (offsetOf idSize rs ps) toc in
+      let r : List ℕ = trailerOf idSize sha1 (o .unhashed) (((h ++ t) ++ x) ++ e) in
       append-assoc ((h ++ t) ++ x) e r ∙ append-assoc (h ++ t) x (e ++ r) ∙ append-assoc h t (x ++ (e ++ r)) ∙ ap (λ (l : List ℕ). h ++ (t ++ l)) (sym (append-assoc x e r))
 
-  module _ (few : recordsIn rs ≤ most) (short : length (bodyBytes 20 64 rs ps ns nm o) ≤ most) where
+  module _ (few : recordsIn rs ≤ most) (short : length (bodyBytes idSize depthLimit rs ps ns nm o) ≤ most) where
     pub header-here : Header (headerOf (versionOf rs) count) (versionOf rs) count
     header-here = header-spelled (versionOf rs) count (version-small (anyExtended rs records 0)) (supported (anyExtended rs records 0)) (omega (arith, count-small rs records 0))
 
     pub extensions-here : Extensions behindEntries extensionsHere
-    unfolding treeOf
-    extensions-here = extensions-spelled 20 sha1 (writesTree o) (treeBody ns nm) (o .sparse) has (offsetOf 20 rs ps) toc (tree-small short) (lit< tt) (length-sha1 toc)
+    extensions-here = extensions-spelled idSize sha1 (writesTree o) (treeBody ns nm) (o .sparse) has (offsetOf idSize rs ps) toc (tree-small short) (lit< tt) (length-sha1 toc)
 
-    pub entries-here : PathsEnd rs ps → Entries 20 (versionOf rs) start count (tableBytes 20 rs ps) (meaningsOf 20 rs ps)
-    entries-here ends = entries-spelled 20 (versionOf rs) rs ps (lit≤ tt) (not-four (anyExtended rs records 0)) ends records 0 start (omega arith)
+    pub entries-here : PathsEnd rs ps → Entries idSize (versionOf rs) start count (tableBytes idSize rs ps) (meaningsOf idSize rs ps)
+    entries-here ends = entries-spelled idSize (versionOf rs) rs ps (lit≤ tt) (not-four (anyExtended rs records 0)) ends records 0 start (omega arith)
 
-    pub file-spelled : PathsEnd rs ps → File 20 (written rs ps ns nm o) (indexOf rs ps ns nm o)
+    pub file-spelled : PathsEnd rs ps → File idSize (written rs ps ns nm o) (indexOf rs ps ns nm o)
     file-spelled ends =
-        subst (λ (b : List ℕ). File 20 b (indexOf rs ps ns nm o)) (sym written-parts)
+        subst (λ (b : List ℕ). File idSize b (indexOf rs ps ns nm o)) (sym written-parts)
         (file header-here (entries-here ends) extensions-here
         (record { size = length-trailer (o .unhashed) before })
-        (either-marks (sparse-tells (meaningsOf 20 rs ps)) (marks-sdir (writesTree o) (treeBody ns nm) (o .sparse) has eoieBody)) cache-tree)
+        (either-marks (sparse-tells (meaningsOf idSize rs ps)) (marks-sdir (writesTree o) (treeBody ns nm) (o .sparse) has eoieBody)) cache-tree)
 
 -- ---- THE THEOREM: where the writer answers Done, the first `size` bytes of what the output holds are spelled, and mean the table
 
-module _ (rs ps ns nm : List ℕ) (o : Options) (out : List ℕ) (version size : ℕ) (done : writeAll 20 sha1 64 rs ps ns nm o out .answer ≡ Done version size) where
+module _ (rs ps ns nm : List ℕ) (o : Options) (out : List ℕ) (version size : ℕ) (done : writeAll idSize sha1 depthLimit rs ps ns nm o out .answer ≡ Done version size) where
   -- the file: the first `size` bytes of the output
   abbrev pub fileIn : List ℕ
-  fileIn = take size (writeAll 20 sha1 64 rs ps ns nm o out .out)
+  fileIn = take size (writeAll idSize sha1 depthLimit rs ps ns nm o out .out)
 
   pub file-is : fileIn ≡ written rs ps ns nm o
   file-is =
       let d = done-says rs ps ns nm o out version size done in
       ap (λ (l : List ℕ). take size l) (d .after-is) ∙ take-at (written rs ps ns nm o) (drop (length (written rs ps ns nm o)) out) size (sym (d .size-is))
 
-  pub written-is-spelled : PathsEnd rs ps → File 20 fileIn (indexOf rs ps ns nm o)
+  pub written-is-spelled : PathsEnd rs ps → File idSize fileIn (indexOf rs ps ns nm o)
   written-is-spelled ends =
       let d = done-says rs ps ns nm o out version size done in
-      subst (λ (b : List ℕ). File 20 b (indexOf rs ps ns nm o)) (sym file-is) (file-spelled rs ps ns nm o (d .few) (d .short) ends)
+      subst (λ (b : List ℕ). File idSize b (indexOf rs ps ns nm o)) (sym file-is) (file-spelled rs ps ns nm o (d .few) (d .short) ends)

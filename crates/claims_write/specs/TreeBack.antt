@@ -22,9 +22,10 @@ use Rattle.node.specs.Store.{idRoom, nodesIn, wordAt, parentAt, idAt, partOf, n
 use Rattle.tree_write.specs.Kids.{Mem, here, there}
 use Rattle.write.specs.declared.Options.{Options}
 use Rattle.write.specs.declared.Answer.the-variants.{Done}
-use Rattle.write.specs.File.{headerOf, treeHead, extensionHead, sparsePart, eoiePart, trailerOf, extensionsOf, treeOf, writesTree, treeSignature, offsetOf, versionOf, writeAll}
+use Rattle.write.specs.File.{headerOf, treeHead, extensionHead, sparsePart, eoiePart, trailerOf, writesTree, treeSignature, offsetOf, versionOf, writeAll}
+use Rattle.write.specs.Extensions.{bytes-for}
 use Rattle.write.specs.Parts.{length-head, length-header}
-use Rattle.write.specs.Entries.{tableBytes}
+use Rattle.write_entries.specs.Entries.{tableBytes}
 use Rattle.grammar.specs.Tree.{Tree, Node}
 use Rattle.claims_entries.specs.Place.{Lies, lies-left, lies-right, lies-at}
 use Rattle.claims.specs.Premises.{Slices}
@@ -208,7 +209,7 @@ in-front n small ns nm s a b at some x = record {
 
 module _ (rs ps ns nm : List ℕ) (o : Options) (asked : writesTree o ≡ true) where
   body-lies : Lies (written rs ps ns nm o) (treePlace rs ps) (length (written rs ps ns nm o)) (treeBody ns nm)
-  unfolding extensionsOf treeOf treeHead
+  unfolding treeHead
   body-lies =
       let w : List ℕ = written rs ps ns nm o in
       let h : List ℕ = headerOf (versionOf rs) (count rs ps ns nm o) in
@@ -220,7 +221,7 @@ module _ (rs ps ns nm : List ℕ) (o : Options) (asked : writesTree o ≡ true) 
       let head : List ℕ = extensionHead treeSignature (length body) in
       let sparse : List ℕ = sparsePart (o .sparse) in
       let parts : b ≡ ((head ++ body) ++ sparse) ++ e =
-      ap (λ (t : Bool). ((pick t (extensionHead treeSignature (length (pick t body []))) [] ++ pick t body []) ++ sparse) ++ e) asked in
+      ap (λ (x : List ℕ). x ++ e) (bytes-for (writesTree o) body (o .sparse) ∙ ap (λ (t : Bool). (pick t (extensionHead treeSignature (length (pick t body []))) [] ++ pick t body []) ++ sparse) asked) in
       let all : Lies w 0 (length w) w = record { fits = omega arith; rest = []; is = sym (append-nil w) } in
       let l₀ : Lies w 0 (length w) (h ++ (t ++ (b ++ r))) = subst (λ (x : List ℕ). Lies w 0 (length w) x) (written-parts rs ps ns nm o) all in
       let l₁ = lies-left b r (lies-right t (b ++ r) (lies-right h (t ++ (b ++ r)) l₀)) in

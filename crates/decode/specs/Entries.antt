@@ -11,25 +11,29 @@ use Rattle.wire.specs.Places.{pathAt}
 use Rattle.wire.specs.declared.FileAt.{FileAt}
 use Rattle.wire.specs.declared.PathAt.{PathAt}
 use Rattle.refusal.specs.Refusal.{not-spelled, no-entry-room}
+use Rattle.refusal.specs.Bit.{bit}
 use Rattle.entry.specs.Mode.{dirAt}
 use Rattle.entry.specs.Record.{recordsIn, putRecord}
 use Rattle.measure.specs.Entry.{measureAt}
 use Rattle.measure.specs.declared.Measured.{Measured}
 use Rattle.measure.specs.declared.Measured.the-variants.{Entry, Short, Fault}
 use Rattle.decode.specs.declared.entries.Before.{Before}
+use Rattle.decode.specs.declared.entries.Stored.{Stored}
+use Rattle.decode.specs.declared.entries.Run.{Run}
 use Rattle.decode.specs.declared.entries.Answer.{Answer}
 use Rattle.decode.specs.declared.entries.Answer.the-variants.{Done, NotSpelled, NoRoom}
 
--- 01's number for an answer, 0 where there is no refusal, and the value that a refusal carries
-abbrev pub refusal : Answer → ℕ
-refusal (Done next used sparse) = 0
-refusal (NotSpelled k) = not-spelled
-refusal (NoRoom k) = no-entry-room
+-- 01's number of an answer, 0 where nothing is refused, and what goes with it: the place behind the entries, the path bytes in use and whether the index is sparse, or
+-- the entry that is refused
+abbrev pub numberOf : Answer → ℕ
+numberOf (Done next used sparse) = 0
+numberOf (NotSpelled k) = not-spelled
+numberOf (NoRoom k) = no-entry-room
 
-abbrev pub carried : Answer → List ℕ
-carried (Done next used sparse) = []
-carried (NotSpelled k) = k ∷ []
-carried (NoRoom k) = k ∷ []
+abbrev pub carriedOf : Answer → List ℕ
+carriedOf (Done next used sparse) = next .0 ∷ used .0 ∷ bit sparse ∷ []
+carriedOf (NotSpelled k) = k ∷ []
+carriedOf (NoRoom k) = k ∷ []
 
 -- a path: what is kept of the one before, which ends at `used`, and a part of the file
 unfoldable pub pathOf : List ℕ → List ℕ → ℕ → ℕ → ℕ → ℕ → ℕ → List ℕ
@@ -72,6 +76,23 @@ run id s end version (suc n) i at used first prev sparse rs ps =
     (run id s end version n (i + 1) next (pathAt (used .0 + (keep + len))) false (keep + len) (marked s (at .0) sparse)
     (putRecord id s (at .0) flags (used .0) (used .0 + (keep + len)) rs i)
     (paste ps (used .0) (pathOf s ps keep (suffix .0) len prev (used .0)) (keep + len)))))
+
+-- ---- the same by the code's structs
+
+abbrev pub RoomFor : List ℕ → List ℕ → Stored → Type 0
+RoomFor s ps e = Room s ps (e .keep) (e .suffix) (e .len) (e .prev) (e .used)
+
+-- what storing an entry leaves in the two stores
+abbrev pub withRecord : ℕ → List ℕ → Stored → List ℕ → List ℕ
+withRecord id s e rs = putRecord id s (e .at) (e .flags) (e .used) (e .used + (e .keep + e .len)) rs (e .index)
+
+abbrev pub withPath : List ℕ → Stored → List ℕ → List ℕ
+withPath s e ps = paste ps (e .used) (pathOf s ps (e .keep) (e .suffix) (e .len) (e .prev) (e .used)) (e .keep + e .len)
+
+abbrev pub runOf : ℕ → List ℕ → Run → Before → List ℕ → List ℕ → Outcome
+runOf id s r b rs ps = run id s (r .end) (r .version) (r .count) (r .index) (r .from) (b .used) (b .first) (b .length) false rs ps
+
+-- ---- from what a caller says
 
 unfoldable pub least : ℕ → ℕ → ℕ
 least a b = pick (ltb b a) b a

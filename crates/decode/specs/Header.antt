@@ -1,13 +1,12 @@
 -- The header (gitformat-index, "A 12-byte header"; 01, When the desk says no, 1 to 3): at least 12 bytes and an id's length, "DIRC", version 2, 3 or 4, the
--- number of entries. `refusal` gives 01's number, and `carried` what goes with it. Assumes nothing.
+-- number of entries. Assumes nothing.
 use Prim.Native.Nat.{ℕ, _+_}
-use mathlib.Core.List.{List, [], _∷_}
+use mathlib.Core.List.{List}
 use lib.ListN.{length}
 use lib.Dec.{ltb, eqb}
 use Rattle.laws.specs.Pick.{pick}
 use Rattle.wire.specs.BigEndian.{beAt}
 use Rattle.format.specs.Format.{headerSize}
-use Rattle.refusal.specs.Refusal.{short-file, no-signature, other-version}
 use Rattle.decode.specs.declared.header.Header.{Header}
 use Rattle.decode.specs.declared.header.Header.the-variants.{Opens, ShortFile, NoSignature, OtherVersion}
 
@@ -26,17 +25,3 @@ unfoldable pub headerAt : ℕ → List ℕ → Header
 headerAt id s =
     pick (ltb (length s) (headerSize + id)) ShortFile
     (pick (eqb (beAt 4 s 0) signature) (onVersion (beAt 4 s 4) (beAt 4 s 8)) NoSignature)
-
--- the number of the refusal, 0 where there is none
-abbrev pub refusal : Header → ℕ
-refusal (Opens version entries) = 0
-refusal ShortFile = short-file
-refusal NoSignature = no-signature
-refusal (OtherVersion version) = other-version
-
--- the value that a refusal carries
-abbrev pub carried : Header → List ℕ
-carried (Opens version entries) = []
-carried ShortFile = []
-carried NoSignature = []
-carried (OtherVersion version) = version ∷ []

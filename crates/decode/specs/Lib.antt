@@ -2,5 +2,4 @@
 pub mod Header
 pub mod Bounds
 pub mod Entries
-pub mod Laws
 pub mod Stores

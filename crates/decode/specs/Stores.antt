@@ -1,7 +1,7 @@
 -- What a run leaves in its stores, over the id's length: a run as turns, the lengths, what stands before it, and that the path of each record it read lies in the
 -- path store. Later crates cite these and not the run's text. Assumes nothing.
 use Prim.Native.Nat.{ℕ, zero, suc, _+_, _-_, _*_, _^_, _≤_, _<_}
-use mathlib.Core.Path.{_≡_, refl, ap, _∙_}
+use mathlib.Core.Path.{_≡_, refl, sym, ap, _∙_}
 use mathlib.Core.Bool.{Bool, true, false}
 use mathlib.Core.List.{List, _++_, append-assoc}
 use mathlib.Core.Logic.{_⊎_, inl, inr, ⊎-elim}
@@ -9,6 +9,7 @@ use native.Mathlib.Omega.{arith}
 use lib.ListN.{length, take, drop, length-append}
 use lib.Dec.{ltb, leb}
 use lib.Seq.{paste, length-paste, take-append-le, take-take, length-take-le}
+use borrow.Author.Tests.{le-ltb}
 use Rattle.laws.specs.Pick.{pick}
 use Rattle.laws.specs.Lists.{length-part}
 use Rattle.laws.specs.Tests.{Less, less, not-less, less?, AtMost, at-most, above, at-most?, lt-or-ge}
@@ -25,8 +26,7 @@ use Rattle.measure.specs.declared.Measured.the-variants.{Entry, Short, Fault}
 use Rattle.decode.specs.declared.entries.Before.{Before as Start}
 use Rattle.decode.specs.declared.entries.Answer.{Answer}
 use Rattle.decode.specs.declared.entries.Answer.the-variants.{Done, NotSpelled, NoRoom}
-use Rattle.decode.specs.Entries.{pathOf, marked, Outcome, outcome, onMeasured, run, readEntries}
-use Rattle.decode.specs.Laws.{least-left}
+use Rattle.decode.specs.Entries.{pathOf, marked, Outcome, outcome, onMeasured, run, least, readEntries}
 
 -- a run as turns: it is done, or stops at an entry that is not spelled or has no room, or stores an entry and goes on
 pub data Ran (id : ℕ) (s : List ℕ) (end : FileAt) (version : ℕ) : ℕ → ℕ → FileAt → PathAt → Bool → ℕ → Bool → List ℕ → List ℕ → Outcome → Type 0 where
@@ -213,6 +213,10 @@ module _ (id : ℕ) (hid : id ≤ 32) (s : List ℕ) (end : FileAt) (version : �
       next-reached (NoRoom y) k = k
 
 -- ---- a run whose caller says what is so
+
+pub least-left : (a b : ℕ) → a ≤ b → a ≡ least a b
+unfolding least
+least-left a b h = sym (rw (le-ltb b a h))
 
 module _ (id : ℕ) (s : List ℕ) (end : FileAt) (version n i : ℕ) (at : FileAt) (before : Start) (rs ps : List ℕ) where
   pub read-is-run : before .used .0 ≤ length ps → before .length ≤ before .used .0 → readEntries id s end version n i at before rs ps ≡ run id s end version n i at (before .used) (before .first) (before .length) false rs ps

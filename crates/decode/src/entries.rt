@@ -1,14 +1,12 @@
 // How many entries a file has room for, and the entries of an index read into two lent stores of bytes: 96 for each record, and the paths one behind the other.
 // Each entry is measured before anything is written, so a refusal leaves the entries before it and nothing else.
-ghost use mathlib.Core.Bool.{false};
 ghost use mathlib.Core.Path.{_≡_};
 ghost use Prim.Native.Nat.{_+_, _-_, _*_, _≤_};
 ghost use lib.ListN.{length};
-ghost use lib.Seq.{paste};
 ghost use Rattle.format.specs.Format.{idSize};
-ghost use Rattle.entry.specs.Record.{putRecord};
+ghost use Rattle.entry.specs.Layout.{idRoom};
 ghost use Rattle.decode.specs.Bounds.{blockSize, minEntrySize, maxEntries};
-ghost use Rattle.decode.specs.Entries.{Room, pathOf, marked, least, outcome, run, readEntries};
+ghost use Rattle.decode.specs.Entries.{RoomFor, withRecord, withPath, marked, least, outcome, runOf, readEntries};
 use measure::Measured;
 use wire::FileAt;
 use wire::PathAt;
@@ -22,29 +20,22 @@ pub enum Extensions {
     NotTold,
 }
 
-// Subtraction that stops at 0.
-fn less(a: usize, b: usize) -> usize
-    ensures { λ r. ⌜ r ≡ a - b ⌝ }
-{
-    if a < b {
-        return 0;
-    }
-    a - b
-}
-
 // The bytes between the header and the extensions, or the trailer where these are not told.
 fn entries_block_size_in_bytes(size: usize, extensions: Extensions, id: usize) -> usize
     ensures { λ r. ⌜ r ≡ blockSize size extensions id ⌝ }
 {
     match extensions {
-        Extensions::From(offset) => less(offset, format::HEADER_SIZE),
-        Extensions::NotTold => less(less(size, id), format::HEADER_SIZE),
+        Extensions::From(offset) => sums::saturating_sub(offset, format::HEADER_SIZE),
+        Extensions::NotTold => {
+            let before = sums::saturating_sub(size, id);
+            sums::saturating_sub(before, format::HEADER_SIZE)
+        },
     }
 }
 
 // The least that an entry takes: the fixed part to a multiple of 8, or in version 4 with a strip of one byte and a NUL.
 fn min_entry_size_in_bytes(version: u32, id: usize) -> usize
-    requires { ⌜ id ≤ 64 ⌝ }
+    requires { ⌜ id ≤ idRoom ⌝ }
     ensures { λ r. ⌜ r ≡ minEntrySize version id ⌝ }
 {
     let fixed = SANS_ID + id;
@@ -81,31 +72,35 @@ pub enum Answer {
     NoRoom(usize),
 }
 
-// Stores the entry at `at`: its record, and its path behind the others.
-fn store(
-    file: &[u8],
-    at: usize,
-    flags: u32,
-    keep: usize,
-    suffix: usize,
-    len: usize,
-    prev: usize,
-    used: usize,
-    records: &mut [u8],
-    paths: &mut [u8],
-    i: usize,
-)
-    requires { ⌜ Room (now file) (now paths) keep suffix len prev used ⌝ }
-    ensures { λ _. ⌜ now (records .exit) ≡ putRecord idSize (now (file .entry)) at flags used (used + (keep + len)) (now (records .entry)) i ⌝ }
-    ensures { λ _. ⌜ now (paths .exit) ≡ paste (now (paths .entry)) used (pathOf (now (file .entry)) (now (paths .entry)) keep suffix len prev used) (keep + len) ⌝ }
+// An entry that is stored: where it stands in the file and its flags; how many bytes of the path before, of `prev`, it keeps, and where those stand that it adds,
+// `len` of them; how much of the path store is in use; and its number.
+pub struct Stored {
+    pub at: usize,
+    pub flags: u32,
+    pub keep: usize,
+    pub suffix: usize,
+    pub len: usize,
+    pub prev: usize,
+    pub used: usize,
+    pub index: usize,
+}
+
+// Stores an entry: its record, and its path behind the others.
+fn store(file: &[u8], e: Stored, records: &mut [u8], paths: &mut [u8])
+    requires { ⌜ RoomFor (now file) (now paths) e ⌝ }
+    ensures { λ _. ⌜ now (records .exit) ≡ withRecord idSize (now (file .entry)) e (now (records .entry)) ⌝ }
+    ensures { λ _. ⌜ now (paths .exit) ≡ withPath (now (file .entry)) e (now (paths .entry)) ⌝ }
 {
-    let from = used - prev;
+    let used = e.used;
+    let keep = e.keep;
+    let len = e.len;
+    let from = used - e.prev;
     let to = used + keep;
     let size = keep + len;
     let stop = used + size;
     slices::copy_within(paths, from, keep, used);
-    slices::copy_bytes(file, suffix, len, paths, to);
-    entry::put_record(file, at, flags, used, stop, records, i);
+    slices::copy_bytes(file, e.suffix, len, paths, to);
+    entry::put_record(file, e.at, e.flags, used, stop, records, e.index);
 }
 
 // Whether the index is sparse, so far or by the entry at `at`.
@@ -118,31 +113,30 @@ fn mark(file: &[u8], at: usize, sparse: bool) -> bool
     sparse
 }
 
-// Reads count entries from `from` on, the first of which is number `index`; the path before has `known` bytes and ends at `start`.
-fn run_entries(
-    file: &[u8],
-    from: FileAt,
-    end: FileAt,
-    version: u32,
-    count: usize,
-    index: usize,
-    start: PathAt,
-    begins: bool,
-    known: usize,
-    records: &mut [u8],
-    paths: &mut [u8],
-) -> Answer
-    requires { ⌜ (start .0 ≤ length (now paths)) × (known ≤ start .0) ⌝ }
-    ensures { λ r. ⌜ outcome r (now (records .exit)) (now (paths .exit)) ≡ run idSize (now (file .entry)) end version count index from start begins known false (now (records .entry)) (now (paths .entry)) ⌝ }
+// A run of `count` entries from `from` on, which have to end at or before `end`; the first of them is number `index`.
+pub struct Run {
+    pub from: FileAt,
+    pub end: FileAt,
+    pub version: u32,
+    pub count: usize,
+    pub index: usize,
+}
+
+// Reads a run, with what stands before it.
+fn run_entries(file: &[u8], r: Run, b: Before, records: &mut [u8], paths: &mut [u8]) -> Answer
+    requires { ⌜ (b .used .0 ≤ length (now paths)) × (b .length ≤ b .used .0) ⌝ }
+    ensures { λ a. ⌜ outcome a (now (records .exit)) (now (paths .exit)) ≡ runOf idSize (now (file .entry)) r b (now (records .entry)) (now (paths .entry)) ⌝ }
 {
+    let end = r.end;
+    let version = r.version;
     let slots = records.len() / entry::RECORD_SIZE;
-    let mut at = from;
-    let mut used = start;
-    let mut first = begins;
-    let mut prev = known;
+    let mut at = r.from;
+    let mut used = b.used;
+    let mut first = b.first;
+    let mut prev = b.length;
     let mut sparse = false;
-    let mut i = index;
-    let mut left = count;
+    let mut i = r.index;
+    let mut left = r.count;
     while 0 < left {
         let m = measure::measure(file, at, end, version, first, prev);
         match m {
@@ -165,19 +159,17 @@ fn run_entries(
                 }
                 let here = at.0;
                 let text = suffix.0;
-                store(
-                    file,
-                    here,
+                let e = Stored {
+                    at: here,
                     flags,
                     keep,
-                    text,
+                    suffix: text,
                     len,
                     prev,
-                    have,
-                    records,
-                    paths,
-                    i,
-                );
+                    used: have,
+                    index: i,
+                };
+                store(file, e, records, paths);
                 sparse = mark(file, here, sparse);
                 let total = have + size;
                 used = PathAt(total);
@@ -196,7 +188,7 @@ fn run_entries(
     }
 }
 
-fn least_of(a: usize, b: usize) -> usize
+fn min(a: usize, b: usize) -> usize
     ensures { λ r. ⌜ r ≡ least a b ⌝ }
 {
     if b < a {
@@ -223,19 +215,19 @@ pub fn read_entries(
     let place = before.used;
     let first = before.first;
     let length = before.length;
-    let used = least_of(place.0, paths.len());
-    let prev = least_of(length, used);
-    run_entries(
-        file,
+    let used = min(place.0, paths.len());
+    let prev = min(length, used);
+    let r = Run {
         from,
         end,
         version,
         count,
         index,
-        PathAt(used),
+    };
+    let b = Before {
+        used: PathAt(used),
         first,
-        prev,
-        records,
-        paths,
-    )
+        length: prev,
+    };
+    run_entries(file, r, b, records, paths)
 }

@@ -1,4 +1,4 @@
-// Replays answers of the Rust on short entry blocks: standard input has the cases that tests/chunk_cases made, each with the Rust's answer, its records and its
+// Replays answers of the Rust on short entry blocks: standard input has the cases that tests/make/decode_replay made, each with the Rust's answer, its records and its
 // paths. The program reads each block, compares all of that, and names the known differences (docs/DIFFERENCES.md) and any other case that parts.
 ghost use Prim.Native.Nat.{_<_, _≤_};
 use decode::entries::Answer;
@@ -105,13 +105,6 @@ fn holds(store: &[u8], data: &[u8; 131072], from: usize, n: usize) -> bool {
     slices::same(store, 0, data, from, n)
 }
 
-fn less(a: usize, b: usize) -> usize {
-    if a < b {
-        return 0;
-    }
-    a - b
-}
-
 // Reads the entries of the block that lies from `block` to `rows`, but for a trailer.
 fn read_block(
     all: &[u8],
@@ -130,7 +123,7 @@ fn read_block(
         return Answer::NoRoom(0);
     }
     let file = &all[block..rows];
-    let end = less(file.len(), trailer);
+    let end = sums::saturating_sub(file.len(), trailer);
     let before = Before {
         used: PathAt(0),
         first: true,
@@ -175,8 +168,8 @@ fn agrees(
         &mut paths,
     );
     if answers(a, t) {
-        if holds(&records, data, rows, less(texts, rows)) {
-            return holds(&paths, data, texts, less(stop, texts));
+        if holds(&records, data, rows, sums::saturating_sub(texts, rows)) {
+            return holds(&paths, data, texts, sums::saturating_sub(stop, texts));
         }
     }
     false

@@ -93,6 +93,24 @@ module _ (id flags start end : ℕ) (hid : id ≤ 32) where
       ∙ be-right 8 (gap ++ bytesOf 4 flags ++ bytesOf 8 start) (bytesOf 8 end) (44 - id) 0 (to-start id flags start end hid)
       ∙ be-bytes 8 end h
 
+-- the rest behind any front of 40 + id bytes
+module _ (front : List ℕ) (id flags start end : ℕ) (hid : id ≤ 32) (hf : length front ≡ 40 + id) where
+  abbrev rest : List ℕ
+  rest = restOf id flags start end
+
+  -- what stands at k in the rest stands at 40 + id + k in the record
+  behind : (w k n : ℕ) → n ≡ 40 + id + k → beAt w (front ++ rest) n ≡ beAt w rest k
+  behind w k n e = ap (λ (m : ℕ). beAt w (front ++ rest) m) e ∙ be-right w front rest (40 + id) k hf
+
+  pub flags-behind : flags < 2 ^ 32 → beAt 4 (front ++ rest) 72 ≡ flags
+  flags-behind h = behind 4 (32 - id + 0) 72 (omega arith) ∙ rest-flags id flags start end hid h
+
+  pub start-behind : start < 2 ^ 64 → beAt 8 (front ++ rest) 76 ≡ start
+  start-behind h = behind 8 (36 - id + 0) 76 (omega arith) ∙ rest-start id flags start end hid h
+
+  pub end-behind : end < 2 ^ 64 → beAt 8 (front ++ rest) 84 ≡ end
+  end-behind h = behind 8 (44 - id + 0) 84 (omega arith) ∙ rest-end id flags start end hid h
+
 module _ (id : ℕ) (s : List ℕ) (at flags start end : ℕ) (hid : id ≤ 32) (hs : at + (40 + id) ≤ length s) where
   abbrev whole : List ℕ
   whole = recordOf id s at flags start end
@@ -115,19 +133,17 @@ module _ (id : ℕ) (s : List ℕ) (at flags start end : ℕ) (hid : id ≤ 32) 
   unfolding recordOf
   record-mode = be-left 4 (frontOf id s at) (restOf id flags start end) 24 (omega (arith, length-front id s at hs)) ∙ front-mode id s at hs
 
-  -- what stands at k in the rest stands at 40 + id + k in the record
-  behind : (w k n : ℕ) → n ≡ 40 + id + k → beAt w whole n ≡ beAt w (restOf id flags start end) k
-  unfolding recordOf
-  behind w k n e = ap (λ (m : ℕ). beAt w (frontOf id s at ++ restOf id flags start end) m) e ∙ be-right w (frontOf id s at) (restOf id flags start end) (40 + id) k (length-front id s at hs)
-
   record-flags : flags < 2 ^ 32 → beAt 4 whole 72 ≡ flags
-  record-flags h = behind 4 (32 - id + 0) 72 (omega arith) ∙ rest-flags id flags start end hid h
+  unfolding recordOf
+  record-flags h = flags-behind (frontOf id s at) id flags start end hid (length-front id s at hs) h
 
   record-start : start < 2 ^ 64 → beAt 8 whole 76 ≡ start
-  record-start h = behind 8 (36 - id + 0) 76 (omega arith) ∙ rest-start id flags start end hid h
+  unfolding recordOf
+  record-start h = start-behind (frontOf id s at) id flags start end hid (length-front id s at hs) h
 
   record-end : end < 2 ^ 64 → beAt 8 whole 84 ≡ end
-  record-end h = behind 8 (44 - id + 0) 84 (omega arith) ∙ rest-end id flags start end hid h
+  unfolding recordOf
+  record-end h = end-behind (frontOf id s at) id flags start end hid (length-front id s at hs) h
 
 -- ---- any 96 bytes put as record i
 

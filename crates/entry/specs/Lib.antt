@@ -1,5 +1,4 @@
 -- The modules of entry that contracts and proofs cite: flags, the layout, mode, the record store, stat, and their laws; what was put is found. Assumes nothing.
-pub mod Eight
 pub mod Flags
 pub mod Layout
 pub mod Mode

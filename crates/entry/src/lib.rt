@@ -5,13 +5,11 @@ ghost use Prim.Native.Nat.{_+_, _-_, _≤_};
 ghost use lib.ListN.{length};
 ghost use lib.Seq.{paste};
 ghost use Rattle.format.specs.Format.{idSize};
-ghost use Rattle.wire.specs.BigEndian.{beAt};
 ghost use Rattle.entry.specs.Layout.{recordSize, idPlace};
 ghost use Rattle.entry.specs.Record.{recordsIn, frontOf, restOf, putRecord, fieldAt, flagsAt, modeAt, stageAt, startAt, endAt, idAt, liesInside, pathAt};
 use mode::MODE_AT;
 use mode::MODE_END;
 
-pub mod eight;
 pub mod flags;
 pub mod mode;
 pub mod stat;
@@ -104,30 +102,13 @@ fn field32(records: &[u8], i: usize, k: usize) -> u32
     }
 }
 
-// The eight bytes at `at` as a number, the upper first.
-fn eight_at(s: &[u8], at: usize) -> u64
-    requires { ⌜ at + 8 ≤ length (now s) ⌝ }
-    ensures { λ r. ⌜ r ≡ beAt 8 (now (s .entry)) at ⌝ }
-{
-    eight::number_of(
-        s[at],
-        s[at + 1],
-        s[at + 2],
-        s[at + 3],
-        s[at + 4],
-        s[at + 5],
-        s[at + 6],
-        s[at + 7],
-    )
-}
-
 // The eight bytes at k of record i; 0 where there is no such record.
 fn field64(records: &[u8], i: usize, k: usize) -> u64
     requires { ⌜ k + 8 ≤ recordSize ⌝ }
     ensures { λ r. ⌜ r ≡ fieldAt 8 k (now (records .entry)) i ⌝ }
 {
     if i < records.len() / RECORD_SIZE {
-        eight_at(records, i * RECORD_SIZE + k)
+        wire::be64(records, i * RECORD_SIZE + k)
     } else {
         0
     }

@@ -53,13 +53,13 @@ walkFrom wanted sparse last r = judged (r .items) (r .ending) (Filled (sparseIn 
 unfoldable pub walkAt : List ℕ → ℕ → ℕ → ℕ → Walked
 walkAt s from end wanted = walkFrom wanted false Missing (runAt s from end)
 
--- 01's number of an answer, 0 where nothing is refused, and the value that is carried with it
+-- 01's number of an answer, 0 where nothing is refused, and what a refusal carries
 abbrev pub numberOf : Walked → ℕ
 numberOf (Filled sparse body) = 0
 numberOf (NotFilled place) = refusal.not-filled
 numberOf (Mandatory signature) = refusal.mandatory
 
-abbrev pub carried : Walked → ℕ
-carried (Filled sparse body) = 0
-carried (NotFilled place) = place .0
-carried (Mandatory signature) = signature
+abbrev pub carriedOf : Walked → List ℕ
+carriedOf (Filled sparse body) = []
+carriedOf (NotFilled place) = place .0 ∷ []
+carriedOf (Mandatory signature) = signature ∷ []

@@ -11,7 +11,7 @@ use Rattle.wire.specs.BigEndian.{beAt}
 use Rattle.wire.specs.Places.{fileAt}
 use Rattle.sha1.specs.Sha1.{sha1}
 use Rattle.format.specs.Format.{headerSize}
-use Rattle.extension.specs.Signatures.{EOIE, header-size}
+use Rattle.extension.specs.Signatures.{EOIE, extensionHeaderSize}
 use Rattle.extension.specs.Iter.{Found, runAt, lastWhere, onBody}
 use Rattle.extension.specs.declared.iter.Body.{Body}
 use Rattle.extension.specs.declared.iter.Body.the-variants.{Missing}
@@ -28,12 +28,12 @@ abbrev pub body-size : ℕ → ℕ
 body-size h = offset-size + h
 
 abbrev pub whole-size : ℕ → ℕ
-whole-size h = header-size + body-size h
+whole-size h = extensionHeaderSize + body-size h
 
 -- the headers of extensions, which are their signatures and sizes
 unfoldable pub headersOf : List ℕ → List Found → List (List ℕ)
 headersOf s [] = []
-headersOf s (f ∷ fs) = take header-size (drop (f .place) s) ∷ headersOf s fs
+headersOf s (f ∷ fs) = take extensionHeaderSize (drop (f .place) s) ∷ headersOf s fs
 
 -- the last of the extensions, whatever its signature
 abbrev pub lastBody : List Found → Body
@@ -45,7 +45,7 @@ priorAt s from end = record { sum = sha1 (flatten (headersOf s (runAt s from end
 -- the offset, where the extensions from it up to `start` have the hash that EOIE has, there are some, and the last of them ends at `start`
 unfoldable pub verifiedAt : ℕ → (List ℕ → List ℕ) → List ℕ → ℕ → ℕ → Told
 verifiedAt h hash s start offset =
-    pick (sameBytes (hash (flatten (headersOf s (runAt s offset start .items)))) (take h (drop (start + (header-size + offset-size)) s)))
+    pick (sameBytes (hash (flatten (headersOf s (runAt s offset start .items)))) (take h (drop (start + (extensionHeaderSize + offset-size)) s)))
     (onBody (lastBody (runAt s offset start .items)) Nothing
     (λ first behind. pick (eqb behind start) (Offset (fileAt offset)) Nothing))
     Nothing

@@ -14,7 +14,7 @@ use Rattle.laws.specs.Tests.{Same, same, differs, same?, lt-or-ge}
 use Rattle.wire.specs.BigEndian.{beAt}
 use Rattle.wire.specs.Places.{fileAt}
 use Rattle.wire.specs.declared.FileAt.{FileAt}
-use Rattle.extension.specs.Signatures.{sdir, header-size}
+use Rattle.extension.specs.Signatures.{sdir, extensionHeaderSize}
 use Rattle.extension.specs.Iter.{Found, Ending, filled, stray, runAt, bodyOf, ofSignature, lastWhere, lastOf}
 use Rattle.extension.specs.Decode.{isForbidden, marks, sparseIn, judged, walkAt}
 use Rattle.extension.specs.Theorems.{Chain, chain-stray, chain-more, run-chain, chain-run}
@@ -115,7 +115,7 @@ judged-says good (f ∷ fs) e = by (judged-says good fs e) (isForbidden f) refl
 pub stray-inside : {s : List ℕ} {end at p : ℕ} {fs : List Found} → Chain s end at fs (stray p) → at ≤ end → end ≤ length s → (at ≤ p) × (p < end)
 stray-inside {s} {end} {at} (chain-stray d f) h i = (omega arith, ⊎-elim (λ l. l) (λ g. absurd (d i (omega arith))) (lt-or-ge at end))
 stray-inside {s} {end} {at} {p} (chain-more {f = f} w c) h i =
-    let q : f .stop .0 ≡ at + header-size + beAt 4 s (at + 4) = ap (λ (x : FileAt). x .0) (w .stops) in
+    let q : f .stop .0 ≡ at + extensionHeaderSize + beAt 4 s (at + 4) = ap (λ (x : FileAt). x .0) (w .stops) in
     let k : (f .stop .0 ≤ p) × (p < end) = stray-inside c (omega (arith, w .fits .whole)) i in
     (omega (arith, k .0), k .1)
 
@@ -210,12 +210,12 @@ fault-inside s from end wanted place e h i = by (subst (SaysWalk s from end want
 
 -- the body that is answered lies in the space
 pub body-inside : {s : List ℕ} {end at : ℕ} {fs : List Found} {e : Ending} {wanted : ℕ} {f : Found} → Chain s end at fs e → LastSigned wanted fs f
-    → (at + header-size ≤ f .start .0) × (f .start .0 ≤ f .stop .0) × (f .stop .0 ≤ end) × (end ≤ length s)
+    → (at + extensionHeaderSize ≤ f .start .0) × (f .start .0 ≤ f .stop .0) × (f .stop .0 ≤ end) × (end ≤ length s)
 body-inside {s} {end} {at} (chain-more {f = f} w c) (this x n) =
-    let p : f .start .0 ≡ at + header-size = ap (λ (y : FileAt). y .0) (w .starts) in
-    let q : f .stop .0 ≡ at + header-size + beAt 4 s (at + 4) = ap (λ (y : FileAt). y .0) (w .stops) in
+    let p : f .start .0 ≡ at + extensionHeaderSize = ap (λ (y : FileAt). y .0) (w .starts) in
+    let q : f .stop .0 ≡ at + extensionHeaderSize + beAt 4 s (at + 4) = ap (λ (y : FileAt). y .0) (w .stops) in
     (omega arith, omega arith, omega (arith, w .fits .whole), w .fits .inside)
 body-inside {s} {end} {at} {f = g} (chain-more {f = f} w c) (further l) =
-    let q : f .stop .0 ≡ at + header-size + beAt 4 s (at + 4) = ap (λ (y : FileAt). y .0) (w .stops) in
-    let k : (f .stop .0 + header-size ≤ g .start .0) × (g .start .0 ≤ g .stop .0) × (g .stop .0 ≤ end) × (end ≤ length s) = body-inside c l in
+    let q : f .stop .0 ≡ at + extensionHeaderSize + beAt 4 s (at + 4) = ap (λ (y : FileAt). y .0) (w .stops) in
+    let k : (f .stop .0 + extensionHeaderSize ≤ g .start .0) × (g .start .0 ≤ g .stop .0) × (g .stop .0 ≤ end) × (end ≤ length s) = body-inside c l in
     (omega (arith, k .0), k .1, k .2, k .3)

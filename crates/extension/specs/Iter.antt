@@ -9,7 +9,7 @@ use Rattle.laws.specs.Pick.{pick}
 use Rattle.wire.specs.BigEndian.{beAt}
 use Rattle.wire.specs.Places.{fileAt}
 use Rattle.wire.specs.declared.FileAt.{FileAt}
-use Rattle.extension.specs.Signatures.{header-size}
+use Rattle.extension.specs.Signatures.{extensionHeaderSize}
 use Rattle.extension.specs.declared.iter.Cursor.{Cursor}
 use Rattle.extension.specs.declared.iter.Step.{Step}
 use Rattle.extension.specs.declared.iter.Step.the-variants.{Extension, Done, Broken}
@@ -21,7 +21,7 @@ cursor at end = record { at = fileAt at; end = fileAt end }
 
 -- an extension of a signature and a size whose header begins at a place
 abbrev pub extensionAt : ℕ → ℕ → ℕ → ℕ → Step
-extensionAt at end signature size = Extension signature (fileAt (at + header-size)) (fileAt (at + header-size + size)) (cursor (at + header-size + size) end)
+extensionAt at end signature size = Extension signature (fileAt (at + extensionHeaderSize)) (fileAt (at + extensionHeaderSize + size)) (cursor (at + extensionHeaderSize + size) end)
 
 -- what stands at `at`, in a part of the file that ends at `end`. Where the end lies beyond the file, or before the place, that is no extension
 unfoldable pub stepAt : List ℕ → ℕ → ℕ → Step
@@ -29,8 +29,8 @@ stepAt s at end =
     pick (ltb (length s) end) Broken
     (pick (ltb end at) Broken
     (pick (eqb at end) Done
-    (pick (ltb (end - at) header-size) Broken
-    (pick (ltb (end - at - header-size) (beAt 4 s (at + 4))) Broken
+    (pick (ltb (end - at) extensionHeaderSize) Broken
+    (pick (ltb (end - at - extensionHeaderSize) (beAt 4 s (at + 4))) Broken
     (extensionAt at end (beAt 4 s at) (beAt 4 s (at + 4)))))))
 
 -- ---- a run of extensions

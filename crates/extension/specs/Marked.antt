@@ -10,7 +10,7 @@ use Rattle.wire.specs.Places.{fileAt}
 use Rattle.sha1.specs.Sha1.{rotl, ch, parity, maj, mixOf, constOf, zerosOf, padding, initial, wordsOf, nextWord, extend, schedule, turn, rounds, added, compress, hashBlocks, digestOf, sha1}
 use Rattle.extension.specs.Signatures.{TREE, sdir, IEOT, EOIE}
 use Rattle.extension.specs.Iter.{stepAt, runBy, runAt, firstWhere, lastWhere, firstAt}
-use Rattle.extension.specs.Decode.{mandatory, forbidden, sparseIn, judged, walkAt, numberOf, carried}
+use Rattle.extension.specs.Decode.{mandatory, forbidden, sparseIn, judged, walkAt, numberOf, carriedOf}
 use Rattle.extension.specs.IndexEntryOffsetTable.{tableAt, pairIn, tableIn, tableFrom, pairFrom}
 use Rattle.extension.specs.EndOfIndexEntry.{headersOf, verifiedAt, offsetAt, offsetIn}
 use Rattle.extension.specs.declared.iter.Body.the-variants.{Lies, Missing}
@@ -69,9 +69,9 @@ space = record { empty = refl; several = refl; overrun = refl; stray-byte = refl
 -- the numbers that 01 gives, with what is carried
 pub record Numbers : Type 0 where
   pub seven : numberOf (walked (ext ABCD (7 ∷ []) ++ (120 ∷ []))) ≡ 7
-  pub place : carried (walked (ext ABCD (7 ∷ []) ++ (120 ∷ []))) ≡ 21
+  pub place : carriedOf (walked (ext ABCD (7 ∷ []) ++ (120 ∷ []))) ≡ 21 ∷ []
   pub eight : numberOf (walked (ext sdir (0 ∷ []))) ≡ 8
-  pub signature : carried (walked (ext sdir (0 ∷ []))) ≡ 1935960434
+  pub signature : carriedOf (walked (ext sdir (0 ∷ []))) ≡ 1935960434 ∷ []
 
 pub numbers : Numbers
 unfolding walked fileOf ext sized bytesOf beAt walkAt runAt runBy stepAt judged forbidden sparseIn lastWhere

@@ -1,4 +1,4 @@
--- Numbers of the format that extensions have: signatures, each as one big-endian number, and how long an extension's header and the file's trailer are (gitformat-index, "Extensions"; 01, "Extensions").
+-- Numbers of the format that extensions have: signatures, each as one big-endian number, and how long an extension's header is (gitformat-index, "Extensions"; 01, "Extensions").
 -- Assumes nothing.
 use Prim.Native.Nat.{ℕ, _/_}
 
@@ -19,8 +19,8 @@ abbrev pub EOIE : ℕ
 EOIE = 1162824005
 
 -- 4 signature bytes and 4 of a size
-abbrev pub header-size : ℕ
-header-size = 8
+abbrev pub extensionHeaderSize : ℕ
+extensionHeaderSize = 8
 
 -- a signature's first byte
 abbrev pub firstByte : ℕ → ℕ

@@ -15,7 +15,7 @@ use Rattle.wire.specs.BigEndian.{beAt}
 use Rattle.wire.specs.Places.{fileAt}
 use Rattle.wire.specs.declared.FileAt.{FileAt}
 use Rattle.format.specs.Format.{headerSize}
-use Rattle.extension.specs.Signatures.{EOIE, header-size}
+use Rattle.extension.specs.Signatures.{EOIE, extensionHeaderSize}
 use Rattle.extension.specs.Iter.{Found, Ending, filled, runAt, bodyOf, lastWhere, onBody}
 use Rattle.extension.specs.EndOfIndexEntry.{offset-size, body-size, whole-size, headersOf, lastBody, verifiedAt, offsetAt, offsetIn}
 use Rattle.extension.specs.Theorems.{by-less, by-same, Chain, chain-filled, chain-stray, chain-more, run-chain, chain-run}
@@ -39,7 +39,7 @@ pub record Tells (h : ℕ) (hash : List ℕ → List ℕ) (s : List ℕ) (offset
   pub first : Found
   pub rest : List Found
   pub fills : Chain s (beginning h s) offset (first ∷ rest) filled
-  pub hashed : hash (flatten (headersOf s (first ∷ rest))) ≡ take h (drop (beginning h s + (header-size + offset-size)) s)
+  pub hashed : hash (flatten (headersOf s (first ∷ rest))) ≡ take h (drop (beginning h s + (extensionHeaderSize + offset-size)) s)
 
 -- the last of some extensions ends where the chain does
 pub last-ends : {s : List ℕ} {end at : ℕ} (f : Found) (fs : List Found) {e : Ending} (b : Body) → Chain s end at (f ∷ fs) e
@@ -63,7 +63,7 @@ pub data SaysTold (h : ℕ) (hash : List ℕ → List ℕ) (s : List ℕ) : Told
 
 module _ (h : ℕ) (hash : List ℕ → List ℕ) (s : List ℕ) (long : whole-size h + h ≤ length s) (named : beAt 4 s (beginning h s) ≡ EOIE) (sized : beAt 4 s (beginning h s + 4) ≡ body-size h) (offset : ℕ)
     (told : beAt 4 s (beginning h s + 8) ≡ offset) (low : headerSize ≤ offset) (high : offset ≤ beginning h s) where
-  ended-says : (fs : List Found) {e : Ending} → Chain s (beginning h s) offset fs e → hash (flatten (headersOf s fs)) ≡ take h (drop (beginning h s + (header-size + offset-size)) s)
+  ended-says : (fs : List Found) {e : Ending} → Chain s (beginning h s) offset fs e → hash (flatten (headersOf s fs)) ≡ take h (drop (beginning h s + (extensionHeaderSize + offset-size)) s)
       → SaysTold h hash s (onBody (lastBody fs) Nothing (λ first behind. pick (eqb behind (beginning h s)) (Offset (fileAt offset)) Nothing))
   unfolding lastWhere
   ended-says [] c y = is-nothing
@@ -82,9 +82,9 @@ module _ (h : ℕ) (hash : List ℕ → List ℕ) (s : List ℕ) (long : whole-s
 
   verified-says : SaysTold h hash s (verifiedAt h hash s (beginning h s) offset)
   unfolding verifiedAt
-  verified-says = by (sameBytes (hash (flatten (headersOf s (runAt s offset (beginning h s) .items)))) (take h (drop (beginning h s + (header-size + offset-size)) s))) refl
+  verified-says = by (sameBytes (hash (flatten (headersOf s (runAt s offset (beginning h s) .items)))) (take h (drop (beginning h s + (extensionHeaderSize + offset-size)) s))) refl
     where
-      by : (t : Bool) → sameBytes (hash (flatten (headersOf s (runAt s offset (beginning h s) .items)))) (take h (drop (beginning h s + (header-size + offset-size)) s)) ≡ t
+      by : (t : Bool) → sameBytes (hash (flatten (headersOf s (runAt s offset (beginning h s) .items)))) (take h (drop (beginning h s + (extensionHeaderSize + offset-size)) s)) ≡ t
           → SaysTold h hash s (pick t (onBody (lastBody (runAt s offset (beginning h s) .items)) Nothing (λ first behind. pick (eqb behind (beginning h s)) (Offset (fileAt offset)) Nothing)) Nothing)
       by true q = ended-says (runAt s offset (beginning h s) .items) (run-chain s offset (beginning h s)) (same-equal _ _ q)
       by false q = is-nothing

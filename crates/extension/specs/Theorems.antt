@@ -12,7 +12,7 @@ use Rattle.laws.specs.Tests.{Less, less, not-less, less?, Same, same, differs, 
 use Rattle.wire.specs.BigEndian.{beAt}
 use Rattle.wire.specs.Places.{fileAt}
 use Rattle.wire.specs.declared.FileAt.{FileAt}
-use Rattle.extension.specs.Signatures.{header-size}
+use Rattle.extension.specs.Signatures.{extensionHeaderSize}
 use Rattle.extension.specs.Iter.{cursor, extensionAt, stepAt, Found, Ending, filled, stray, ended, cons, onStep, runBy, runAt}
 use Rattle.extension.specs.IndexEntryOffsetTable.{version, version-size, pair-size, tableAt}
 use Rattle.extension.specs.declared.iter.Cursor.{Cursor}
@@ -42,16 +42,16 @@ by-same P a b {x} {y} f g = go (same? a b)
 -- the space of an extension at `at`, header and body, lies before `end`, which lies in the file
 pub record Fits (s : List ℕ) (at end : ℕ) : Type 0 where
   pub inside : end ≤ length s
-  pub whole : at + header-size + beAt 4 s (at + 4) ≤ end
+  pub whole : at + extensionHeaderSize + beAt 4 s (at + 4) ≤ end
 
 -- an extension that was met
 pub record Met (s : List ℕ) (at end signature : ℕ) (start stop : FileAt) (next : Cursor) : Type 0 where
   pub inside : end ≤ length s
-  pub forward : at + header-size ≤ stop .0
+  pub forward : at + extensionHeaderSize ≤ stop .0
   pub within : stop .0 ≤ end
-  pub long : stop .0 ≡ at + header-size + beAt 4 s (at + 4)
+  pub long : stop .0 ≡ at + extensionHeaderSize + beAt 4 s (at + 4)
   pub named : signature ≡ beAt 4 s at
-  pub body : start .0 ≡ at + header-size
+  pub body : start .0 ≡ at + extensionHeaderSize
   pub place : next .at .0 ≡ stop .0
   pub bound : next .end .0 ≡ end
 
@@ -67,13 +67,13 @@ step? s at end =
     by-less (IsStep s at end) (length s) end (λ h. is-broken (λ j e. omega arith) (λ f. omega (arith, f .inside)))
     (λ i. by-less (IsStep s at end) end at (λ h. is-broken (λ j e. omega arith) (λ f. omega (arith, f .whole)))
     (λ b. by-same (IsStep s at end) at end (is-done i)
-    (λ d. by-less (IsStep s at end) (end - at) header-size (λ h. is-broken (λ j e. d e) (λ f. omega (arith, f .whole)))
-    (λ r. by-less (IsStep s at end) (end - at - header-size) (beAt 4 s (at + 4)) (λ h. is-broken (λ j e. d e) (λ f. omega (arith, f .whole)))
+    (λ d. by-less (IsStep s at end) (end - at) extensionHeaderSize (λ h. is-broken (λ j e. d e) (λ f. omega (arith, f .whole)))
+    (λ r. by-less (IsStep s at end) (end - at - extensionHeaderSize) (beAt 4 s (at + 4)) (λ h. is-broken (λ j e. d e) (λ f. omega (arith, f .whole)))
     (λ h. extension i b r h)))))
   where
-    extension : end ≤ length s → at ≤ end → header-size ≤ end - at → beAt 4 s (at + 4) ≤ end - at - header-size → IsStep s at end (extensionAt at end (beAt 4 s at) (beAt 4 s (at + 4)))
+    extension : end ≤ length s → at ≤ end → extensionHeaderSize ≤ end - at → beAt 4 s (at + 4) ≤ end - at - extensionHeaderSize → IsStep s at end (extensionAt at end (beAt 4 s at) (beAt 4 s (at + 4)))
     extension i b r h =
-        let f : Met s at end (beAt 4 s at) (fileAt (at + header-size)) (fileAt (at + header-size + beAt 4 s (at + 4))) (cursor (at + header-size + beAt 4 s (at + 4)) end)
+        let f : Met s at end (beAt 4 s at) (fileAt (at + extensionHeaderSize)) (fileAt (at + extensionHeaderSize + beAt 4 s (at + 4))) (cursor (at + extensionHeaderSize + beAt 4 s (at + 4)) end)
         = record { inside = i; forward = omega arith; within = omega arith; long = refl; named = refl; body = refl; place = refl; bound = refl } in
         is-extension f
 
@@ -168,8 +168,8 @@ pub record Stands (s : List ℕ) (at end : ℕ) (f : Found) : Type 0 where
   pub fits : Fits s at end
   pub begins : f .place ≡ at
   pub named : f .signature ≡ beAt 4 s at
-  pub starts : f .start ≡ fileAt (at + header-size)
-  pub stops : f .stop ≡ fileAt (at + header-size + beAt 4 s (at + 4))
+  pub starts : f .start ≡ fileAt (at + extensionHeaderSize)
+  pub stops : f .stop ≡ fileAt (at + extensionHeaderSize + beAt 4 s (at + 4))
 
 -- extensions one behind the other from `at` on: they fill the part up to `end`, or at some place before it none stands
 pub data Chain (s : List ℕ) (end : ℕ) : ℕ → List Found → Ending → Type 0 where
@@ -234,7 +234,7 @@ chain-run {s} {end} {at} (chain-filled i q) = run-done s at end (step-filled s a
 chain-run {s} {end} {at} (chain-stray d f) = run-broken s at end (step-stray s at end d f)
 chain-run {s} {end} {at} (chain-more {f = f} {fs = fs} {e = e} w c) =
     let i : runAt s (f .stop .0) end ≡ record { items = fs; ending = e } = chain-run c in
-    let p : at + header-size + beAt 4 s (at + 4) ≡ f .stop .0 = sym (ap (λ (x : FileAt). x .0) (w .stops)) in
+    let p : at + extensionHeaderSize + beAt 4 s (at + 4) ≡ f .stop .0 = sym (ap (λ (x : FileAt). x .0) (w .stops)) in
     run-more s at end (step-fits s at end (w .fits))
     ∙ (λ k. cons (record { signature = sym (w .named) k; place = sym (w .begins) k; start = sym (w .starts) k; stop = sym (w .stops) k }) (runAt s (p k) end))
     ∙ ap (cons f) i

@@ -1,5 +1,5 @@
 // Replays what the Rust answers for IEOT and EOIE. Each line of `stdin` is a letter and bytes in hexadecimal digits: `i`, the body of an IEOT; `f` and `g`, a file
-// whose extensions begin at 0 and at 12, in which IEOT is looked for; `e`, a file whose EOIE is asked for. The answers of `stdout` are the Rust's: tests/extension_replay
+// whose extensions begin at 0 and at 12, in which IEOT is looked for; `e`, a file whose EOIE is asked for. The answers of `stdout` are the Rust's: tests/make/extension_replay
 // made both files, with the oracle.
 ghost use Prim.Native.Nat.{_≤_};
 ghost use mathlib.Core.Path.{_≡_};

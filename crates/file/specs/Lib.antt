@@ -2,4 +2,3 @@
 pub mod Trailer
 pub mod Answer
 pub mod Read
-pub mod Laws

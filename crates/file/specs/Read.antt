@@ -61,8 +61,9 @@ onWalked id limit s e ns (walked.Filled mark (Lies start stop)) = grownInto (mar
 onWalked id limit s e ns (walked.NotFilled place) = (answer.NotFilled (place .0), ns)
 onWalked id limit s e ns (walked.Mandatory signature) = (answer.Mandatory signature, ns)
 
-unfoldable pub extensionsInto : ℕ → ℕ → List ℕ → ℕ → Entries → List ℕ → Answer × List ℕ
-extensionsInto id limit s next e ns = onWalked id limit s e ns (walkAt s next (length s - id) TREE)
+-- they fill the space from `next` to `end`
+unfoldable pub extensionsInto : ℕ → ℕ → List ℕ → ℕ → ℕ → Entries → List ℕ → Answer × List ℕ
+extensionsInto id limit s next end e ns = onWalked id limit s e ns (walkAt s next end TREE)
 
 abbrev pub withNodes : List ℕ → List ℕ → Answer × List ℕ → Outcome
 withNodes rs ps (a, ns) = outcome a rs ps ns
@@ -74,7 +75,7 @@ nothingBefore = record { used = pathAt 0; first = true; length = 0 }
 -- what the entries came to, with the two stores that they left
 abbrev pub onEntries : ℕ → ℕ → List ℕ → ℕ → ℕ → List ℕ → List ℕ → List ℕ → Ran → Outcome
 onEntries id limit s version count rs ps ns (ran.Done next used sparse) =
-    withNodes rs ps (extensionsInto id limit s (next .0) (record { version = version; sparse = sparse; records = count; used = used .0 }) ns)
+    withNodes rs ps (extensionsInto id limit s (next .0) (length s - id) (record { version = version; sparse = sparse; records = count; used = used .0 }) ns)
 onEntries id limit s version count rs ps ns (ran.NotSpelled k) = outcome (answer.NotSpelled k) rs ps ns
 onEntries id limit s version count rs ps ns (ran.NoRoom k) = outcome (answer.NoEntryRoom k) rs ps ns
 

@@ -3,8 +3,9 @@ ghost use mathlib.Core.Path.{_≡_};
 ghost use Prim.Native.Nat.{_≤_};
 ghost use lib.ListN.{length};
 ghost use Rattle.wire.specs.declared.FileAt.{FileAt};
+ghost use Rattle.format.specs.Format.{depthLimit, idSize};
 ghost use Rattle.file.specs.Trailer.{goodTrailer};
-ghost use Rattle.file.specs.Answer.{numberOf, carriesOf, carriedOf};
+ghost use Rattle.file.specs.Answer.{numberOf, carriesOf, valueOf};
 ghost use Rattle.file.specs.Read.{outcome, marked, withTree, extensionsInto, entriesInto, readFile};
 use decode::entries::Answer as Ran;
 use decode::entries::Before;
@@ -91,7 +92,7 @@ pub fn carries(a: Answer) -> bool
 
 // The value that an answer carries; 0 where it carries none.
 pub fn carried(a: Answer) -> u64
-    ensures { λ r. ⌜ r ≡ carriedOf a ⌝ }
+    ensures { λ r. ⌜ r ≡ valueOf a ⌝ }
 {
     match a {
         Answer::OtherVersion(v) => v as u64,
@@ -117,8 +118,8 @@ pub fn carried(a: Answer) -> u64
 
 // Whether the trailer is zeros or the SHA-1 of all before it. Zeros are seen first, so that such a file is not hashed.
 fn good_trailer(file: &[u8]) -> bool
-    requires { ⌜ 20 ≤ length (now file) ⌝ }
-    ensures { λ r. ⌜ r ≡ goodTrailer 20 (now (file .entry)) ⌝ }
+    requires { ⌜ idSize ≤ length (now file) ⌝ }
+    ensures { λ r. ⌜ r ≡ goodTrailer idSize (now (file .entry)) ⌝ }
 {
     let n = file.len() - format::ID_SIZE;
     let zeros = [0u8; format::ID_SIZE];
@@ -178,12 +179,10 @@ fn with_tree(e: Entries, t: TreeAnswer) -> Answer
     }
 }
 
-// The extensions from `next` on, and the last TREE's nodes.
-fn read_extensions(file: &[u8], next: FileAt, e: Entries, nodes: &mut [u8]) -> Answer
-    requires { ⌜ 20 ≤ length (now file) ⌝ }
-    ensures { λ r. ⌜ (r, now (nodes .exit)) ≡ extensionsInto 20 64 (now (file .entry)) (next .0) e (now (nodes .entry)) ⌝ }
+// The extensions from `next` on, which fill the space before `end`, and the last TREE's nodes.
+fn read_extensions(file: &[u8], next: FileAt, end: FileAt, e: Entries, nodes: &mut [u8]) -> Answer
+    ensures { λ r. ⌜ (r, now (nodes .exit)) ≡ extensionsInto idSize depthLimit (now (file .entry)) (next .0) (end .0) e (now (nodes .entry)) ⌝ }
 {
-    let end = FileAt(file.len() - format::ID_SIZE);
     let w = extension::decode::walk(file, next, end, extension::TREE);
     match w {
         Walked::NotFilled(place) => Answer::NotFilled(place.0),
@@ -212,8 +211,8 @@ fn read_entries(
     paths: &mut [u8],
     nodes: &mut [u8],
 ) -> Answer
-    requires { ⌜ 20 ≤ length (now file) ⌝ }
-    ensures { λ r. ⌜ outcome r (now (records .exit)) (now (paths .exit)) (now (nodes .exit)) ≡ entriesInto 20 64 (now (file .entry)) version count (now (records .entry)) (now (paths .entry)) (now (nodes .entry)) ⌝ }
+    requires { ⌜ idSize ≤ length (now file) ⌝ }
+    ensures { λ r. ⌜ outcome r (now (records .exit)) (now (paths .exit)) (now (nodes .exit)) ≡ entriesInto idSize depthLimit (now (file .entry)) version count (now (records .entry)) (now (paths .entry)) (now (nodes .entry)) ⌝ }
 {
     let end = FileAt(file.len() - format::ID_SIZE);
     let from = FileAt(format::HEADER_SIZE);
@@ -243,7 +242,7 @@ fn read_entries(
                 records: count,
                 used: used.0,
             };
-            read_extensions(file, next, e, nodes)
+            read_extensions(file, next, end, e, nodes)
         }
     }
 }
@@ -251,7 +250,7 @@ fn read_entries(
 // Reads an index file into three lent stores: records, their paths one behind the other, and the nodes of the last TREE. Refusals 1 to 4 touch nothing; 5 and 6 leave
 // the entries before the one they name; 7 and 8 leave all entries; 9 and 10 leave all entries and a node store of zeros.
 pub fn read(file: &[u8], records: &mut [u8], paths: &mut [u8], nodes: &mut [u8]) -> Answer
-    ensures { λ r. ⌜ outcome r (now (records .exit)) (now (paths .exit)) (now (nodes .exit)) ≡ readFile 20 64 (now (file .entry)) (now (records .entry)) (now (paths .entry)) (now (nodes .entry)) ⌝ }
+    ensures { λ r. ⌜ outcome r (now (records .exit)) (now (paths .exit)) (now (nodes .exit)) ≡ readFile idSize depthLimit (now (file .entry)) (now (records .entry)) (now (paths .entry)) (now (nodes .entry)) ⌝ }
 {
     let h = decode::header::decode(file);
     match h {

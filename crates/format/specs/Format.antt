@@ -1,6 +1,6 @@
 -- Numbers of the index format that more than one crate names, each once (01, "How an entry is spelled", "Extensions", "Writing"). What 02 asks to change, an id's length (A9)
 -- and the depth (A2), is said here. Assumes nothing.
-use Prim.Native.Nat.{ℕ}
+use Prim.Native.Nat.{ℕ, _+_}
 
 -- the bytes of an id, and so of the trailer
 abbrev pub idSize : ℕ
@@ -9,6 +9,17 @@ idSize = 20
 -- signature, version and count
 abbrev pub headerSize : ℕ
 headerSize = 12
+
+-- an entry's part before its flags: ten 32-bit fields and the id
+abbrev pub fieldsSize : ℕ
+fieldsSize = 40 + idSize
+
+-- its part before its path, without and with extended flags
+abbrev pub fixedSize : ℕ
+fixedSize = fieldsSize + 2
+
+abbrev pub fixedExtendedSize : ℕ
+fixedExtendedSize = fieldsSize + 4
 
 -- a length field of this value says that the path runs to the first NUL
 abbrev pub longPath : ℕ

@@ -7,11 +7,11 @@ pub const ID_SIZE: usize = 20;
 pub const HEADER_SIZE: usize = 12;
 
 // An entry's part before its path, without and with extended flags; the flags stand in its last two bytes, or before them.
-pub const FIXED_SIZE: usize = 62;
+pub const FIXED_SIZE: usize = FLAGS_AT + 2;
 
-pub const FIXED_EXTENDED_SIZE: usize = 64;
+pub const FIXED_EXTENDED_SIZE: usize = FLAGS_AT + 4;
 
-pub const FLAGS_AT: usize = 60;
+pub const FLAGS_AT: usize = 40 + ID_SIZE;
 
 // A length field of this value says that the path runs to the first NUL.
 pub const LONG_PATH: usize = 4095;

@@ -8,23 +8,20 @@ use native.Mathlib.Nat.{sub-zero, pow-suc}
 use native.Mathlib.Omega.{arith}
 use lib.ListN.{length, set, take, drop, length-append, length-replicate}
 use lib.Seq.{paste, take-at}
+use Rattle.format.specs.Format.{idSize}
 use Rattle.laws.specs.Tests.{lt-or-ge}
 use Rattle.laws.specs.Lists.{length-part}
 use Rattle.laws.specs.Paste.{paste-take}
 use Rattle.laws.specs.Put.{put, put-none, put-put, set-put, length-put}
 use Rattle.wire.specs.Written.{digitsOf, size-one, size-more}
-use Rattle.show.specs.Hex.{hex}
+use Rattle.show.specs.Hex.{hex, length-hex}
 use Rattle.entry.specs.Record.{modeAt, idAt, stageAt, pathAt}
 use Rattle.entry.specs.Laws.{id-is, id-out}
 use Rattle.lines.specs.Lines.{octal, headOf, lineOf, lineAt, linesFrom, refusedWord, tailOf, refusedText}
-use Rattle.lines.specs.Written.{cap, copied, cap-fits, cap-cap, cap-small, plus-over, plus-fits, text-short, text-fits, text-written}
+use Rattle.sums.specs.Cap.{largest, cap, cap-fits, cap-cap, cap-small}
+use Rattle.lines.specs.Written.{copied, text-short, text-fits, text-written}
 
 -- ---- a line
-
-length-hex : (s : List ℕ) → length (hex s) ≡ length s * 2
-unfolding hex
-length-hex [] = refl
-length-hex (x ∷ s) = let h : length (hex s) ≡ length s * 2 = length-hex s in omega arith
 
 pub octal-six : (m a b c d e f g : ℕ) → a ≡ 48 + m / 8 / 8 / 8 / 8 / 8 % 8 → b ≡ 48 + m / 8 / 8 / 8 / 8 % 8 → c ≡ 48 + m / 8 / 8 / 8 % 8 → d ≡ 48 + m / 8 / 8 % 8 → e ≡ 48 + m / 8 % 8 → f ≡ 48 + m % 8
     → a ∷ b ∷ c ∷ d ∷ e ∷ f ∷ g ∷ [] ≡ octal 6 m ++ (g ∷ [])
@@ -47,7 +44,7 @@ behind : (d d₁ d₂ xs s : List ℕ) (to to₁ n : ℕ) → d₁ ≡ put d to 
 behind d d₁ d₂ xs s to to₁ n e₁ e₂ et l h = copied d₁ d₂ s to₁ n e₂ l ∙ (λ k. put (e₁ k) (et k) s) ∙ put-put d xs s to h
 
 pub head-put : (d d₁ d₂ d₃ digits hexs mark : List ℕ) (to m stage : ℕ) (id : List ℕ) → d₁ ≡ paste d to (drop 0 digits) 7 → d₂ ≡ paste d₁ (to + 7) (drop 0 hexs) 40 → d₃ ≡ paste d₂ (to + 47) (drop 0 mark) 3
-    → digits ≡ octal 6 m ++ (32 ∷ []) → hexs ≡ hex id ++ (10 ∷ []) → mark ≡ 32 ∷ (48 + stage) ∷ 9 ∷ [] → length id ≡ 20 → to + 50 ≤ length d → d₃ ≡ put d to (headOf m id stage)
+    → digits ≡ octal 6 m ++ (32 ∷ []) → hexs ≡ hex id ++ (10 ∷ []) → mark ≡ 32 ∷ (48 + stage) ∷ 9 ∷ [] → length id ≡ idSize → to + 50 ≤ length d → d₃ ≡ put d to (headOf m id stage)
 unfolding headOf octal
 head-put d d₁ d₂ d₃ digits hexs mark to m stage id e₁ e₂ e₃ ed eh em li room =
     let a : List ℕ = octal 6 m ++ (32 ∷ []) in
@@ -65,32 +62,32 @@ length-id n rs i h =
     (λ l. ap length (sym (id-out n rs i l)) ∙ length-replicate {A = ℕ} n 0)
     (lt-or-ge i (length rs / 96))
 
-length-at : (rs ps : List ℕ) (i : ℕ) → length (lineAt 20 rs ps i) ≡ 51 + length (pathAt rs ps i)
+length-at : (rs ps : List ℕ) (i : ℕ) → length (lineAt idSize rs ps i) ≡ 51 + length (pathAt rs ps i)
 unfolding lineAt
 length-at rs ps i =
-    length-line (modeAt rs i) (idAt 20 rs i) (stageAt rs i) (pathAt rs ps i) ∙ omega (arith, length-id 20 rs i (omega arith))
+    length-line (modeAt rs i) (idAt idSize rs i) (stageAt rs i) (pathAt rs ps i) ∙ omega (arith, length-id idSize rs i (omega arith))
 
 module _ (rs ps : List ℕ) (i : ℕ) (path : List ℕ) (ep : path ≡ pathAt rs ps i) where
-  pub line-length : length (lineAt 20 rs ps i) ≡ 51 + length path
+  pub line-length : length (lineAt idSize rs ps i) ≡ 51 + length path
   line-length = length-at rs ps i ∙ ap (λ (l : List ℕ). 51 + length l) (sym ep)
 
-  module _ (to m : ℕ) (room : to + length (lineAt 20 rs ps i) ≤ m) where
+  module _ (to m : ℕ) (room : to + length (lineAt idSize rs ps i) ≤ m) where
     pub line-head : to + 50 ≤ m
     line-head = omega (arith, length-at rs ps i)
 
     pub line-room : to + 51 + length path ≤ m
     line-room = omega (arith, line-length)
 
-    pub line-next : (r : ℕ) → r ≡ to + 50 + length path + 1 → r ≡ to + length (lineAt 20 rs ps i)
+    pub line-next : (r : ℕ) → r ≡ to + 50 + length path + 1 → r ≡ to + length (lineAt idSize rs ps i)
     line-next r e = omega (arith, line-length)
 
-  pub line-put : (d d₁ d₂ : List ℕ) (to m stage : ℕ) (id : List ℕ) → m ≡ modeAt rs i → id ≡ idAt 20 rs i → stage ≡ stageAt rs i → to + length (lineAt 20 rs ps i) ≤ length d → d₁ ≡ put d to (headOf m id stage)
-      → d₂ ≡ paste d₁ (to + 50) (drop 0 path) (length path) → set d₂ (to + 50 + length path) 10 ≡ put d to (lineAt 20 rs ps i)
+  pub line-put : (d d₁ d₂ : List ℕ) (to m stage : ℕ) (id : List ℕ) → m ≡ modeAt rs i → id ≡ idAt idSize rs i → stage ≡ stageAt rs i → to + length (lineAt idSize rs ps i) ≤ length d → d₁ ≡ put d to (headOf m id stage)
+      → d₂ ≡ paste d₁ (to + 50) (drop 0 path) (length path) → set d₂ (to + 50 + length path) 10 ≡ put d to (lineAt idSize rs ps i)
   unfolding lineAt lineOf
   line-put d d₁ d₂ to m stage id em ei es room e₁ e₂ =
-      let h : List ℕ = headOf (modeAt rs i) (idAt 20 rs i) (stageAt rs i) in
+      let h : List ℕ = headOf (modeAt rs i) (idAt idSize rs i) (stageAt rs i) in
       let p : List ℕ = pathAt rs ps i in
-      let lh : length h ≡ 50 = length-head (modeAt rs i) (idAt 20 rs i) (stageAt rs i) ∙ omega (arith, length-id 20 rs i (omega arith)) in
+      let lh : length h ≡ 50 = length-head (modeAt rs i) (idAt idSize rs i) (stageAt rs i) ∙ omega (arith, length-id idSize rs i (omega arith)) in
       let lp : length path ≡ length p = ap length ep in
       let i₁ : d₁ ≡ put d to h = e₁ ∙ (λ k. put d to (headOf (em k) (ei k) (es k))) in
       let i₂ : d₂ ≡ put d to (h ++ p) = behind d d₁ d₂ h p to (to + 50) (length path) i₁ (e₂ ∙ ap (λ (l : List ℕ). paste d₁ (to + 50) l (length path)) ep) (omega arith) lp (omega arith) in
@@ -102,57 +99,61 @@ module _ (rs ps : List ℕ) (i : ℕ) (path : List ℕ) (ep : path ≡ pathAt rs
 
 -- ---- the lines of a table
 
-lines-none : (rs ps : List ℕ) (n i : ℕ) → n ≤ i → linesFrom 20 rs ps (n - i) i ≡ []
+lines-none : (rs ps : List ℕ) (n i : ℕ) → n ≤ i → linesFrom idSize rs ps (n - i) i ≡ []
 unfolding linesFrom
 lines-none rs ps n i h = let q : n - i ≡ 0 = omega arith in rw q
 
-lines-more : (rs ps : List ℕ) (n i : ℕ) → i < n → linesFrom 20 rs ps (n - i) i ≡ lineAt 20 rs ps i ++ linesFrom 20 rs ps (n - (i + 1)) (i + 1)
+lines-more : (rs ps : List ℕ) (n i : ℕ) → i < n → linesFrom idSize rs ps (n - i) i ≡ lineAt idSize rs ps i ++ linesFrom idSize rs ps (n - (i + 1)) (i + 1)
 unfolding linesFrom
 lines-more rs ps n i h = let q : n - i ≡ suc (n - (i + 1)) = omega arith in rw q
 
-pub size-start : (rs ps : List ℕ) (n : ℕ) → cap (0 + length (linesFrom 20 rs ps (n - 0) 0)) ≡ cap (length (linesFrom 20 rs ps n 0))
-size-start rs ps n =
-    let q : 0 + length (linesFrom 20 rs ps (n - 0) 0) ≡ length (linesFrom 20 rs ps (n - 0) 0) = omega arith in
-    ap cap q ∙ ap (λ (k : ℕ). cap (length (linesFrom 20 rs ps k 0))) (sub-zero n)
+-- a size that is capped is a number of 64 bits
+pub size-small : (n s : ℕ) → s ≡ cap n → s ≤ largest
+size-small n s e = omega (arith, cap-small n)
 
-module _ (rs ps : List ℕ) (n i size r : ℕ) (inv : cap (size + length (linesFrom 20 rs ps (n - i) i)) ≡ r) where
+pub size-start : (rs ps : List ℕ) (n : ℕ) → cap (0 + length (linesFrom idSize rs ps (n - 0) 0)) ≡ cap (length (linesFrom idSize rs ps n 0))
+size-start rs ps n =
+    let q : 0 + length (linesFrom idSize rs ps (n - 0) 0) ≡ length (linesFrom idSize rs ps (n - 0) 0) = omega arith in
+    ap cap q ∙ ap (λ (k : ℕ). cap (length (linesFrom idSize rs ps k 0))) (sub-zero n)
+
+module _ (rs ps : List ℕ) (n i size r : ℕ) (inv : cap (size + length (linesFrom idSize rs ps (n - i) i)) ≡ r) where
   pub size-end : size ≤ 18446744073709551615 → n ≤ i → size ≡ r
   size-end s h =
-      let z : size + length (linesFrom 20 rs ps (n - i) i) ≡ size = omega (arith, ap length (lines-none rs ps n i h)) in
+      let z : size + length (linesFrom idSize rs ps (n - i) i) ≡ size = omega (arith, ap length (lines-none rs ps n i h)) in
       sym (cap-fits size s) ∙ ap cap (sym z) ∙ inv
 
-  pub size-turn : i < n → (path : List ℕ) → path ≡ pathAt rs ps i → (size₁ : ℕ) → size₁ ≡ cap (size + (51 + length path)) → cap (size₁ + length (linesFrom 20 rs ps (n - (i + 1)) (i + 1))) ≡ r
+  pub size-turn : i < n → (path : List ℕ) → path ≡ pathAt rs ps i → (size₁ : ℕ) → size₁ ≡ cap (size + (51 + length path)) → cap (size₁ + length (linesFrom idSize rs ps (n - (i + 1)) (i + 1))) ≡ r
   size-turn h path ep size₁ e =
-      let left : List ℕ = linesFrom 20 rs ps (n - (i + 1)) (i + 1) in
-      let z : size + (51 + length path) + length left ≡ size + length (linesFrom 20 rs ps (n - i) i) =
-      omega (arith, ap length (lines-more rs ps n i h), length-append (lineAt 20 rs ps i) left, line-length rs ps i path ep) in
+      let left : List ℕ = linesFrom idSize rs ps (n - (i + 1)) (i + 1) in
+      let z : size + (51 + length path) + length left ≡ size + length (linesFrom idSize rs ps (n - i) i) =
+      omega (arith, ap length (lines-more rs ps n i h), length-append (lineAt idSize rs ps i) left, line-length rs ps i path ep) in
       ap (λ (k : ℕ). cap (k + length left)) e ∙ cap-cap (size + (51 + length path)) (length left) ∙ ap cap z ∙ inv
 
 -- ---- the fill
 
-pub fill-start : (rs ps d : List ℕ) (n : ℕ) → put d 0 (linesFrom 20 rs ps (n - 0) 0) ≡ put d 0 (linesFrom 20 rs ps n 0)
+pub fill-start : (rs ps d : List ℕ) (n : ℕ) → put d 0 (linesFrom idSize rs ps (n - 0) 0) ≡ put d 0 (linesFrom idSize rs ps n 0)
 fill-start rs ps d n = rw sub-zero
 
-pub fill-fits : (rs ps : List ℕ) (n m : ℕ) → length (linesFrom 20 rs ps n 0) ≤ m → 0 + length (linesFrom 20 rs ps (n - 0) 0) ≤ m
+pub fill-fits : (rs ps : List ℕ) (n m : ℕ) → length (linesFrom idSize rs ps n 0) ≤ m → 0 + length (linesFrom idSize rs ps (n - 0) 0) ≤ m
 fill-fits rs ps n m h = rw sub-zero (omega arith)
 
 module _ (rs ps : List ℕ) (n i to : ℕ) where
-  both : i < n → length (linesFrom 20 rs ps (n - i) i) ≡ length (lineAt 20 rs ps i) + length (linesFrom 20 rs ps (n - (i + 1)) (i + 1))
-  both h = ap length (lines-more rs ps n i h) ∙ length-append (lineAt 20 rs ps i) (linesFrom 20 rs ps (n - (i + 1)) (i + 1))
+  both : i < n → length (linesFrom idSize rs ps (n - i) i) ≡ length (lineAt idSize rs ps i) + length (linesFrom idSize rs ps (n - (i + 1)) (i + 1))
+  both h = ap length (lines-more rs ps n i h) ∙ length-append (lineAt idSize rs ps i) (linesFrom idSize rs ps (n - (i + 1)) (i + 1))
 
-  pub fill-room : (m : ℕ) → i < n → to + length (linesFrom 20 rs ps (n - i) i) ≤ m → to + length (lineAt 20 rs ps i) ≤ m
+  pub fill-room : (m : ℕ) → i < n → to + length (linesFrom idSize rs ps (n - i) i) ≤ m → to + length (lineAt idSize rs ps i) ≤ m
   fill-room m h r = omega (arith, both h)
 
-  pub fill-left : (m m₁ to₁ : ℕ) → i < n → to + length (linesFrom 20 rs ps (n - i) i) ≤ m → to₁ ≡ to + length (lineAt 20 rs ps i) → m₁ ≡ m → to₁ + length (linesFrom 20 rs ps (n - (i + 1)) (i + 1)) ≤ m₁
+  pub fill-left : (m m₁ to₁ : ℕ) → i < n → to + length (linesFrom idSize rs ps (n - i) i) ≤ m → to₁ ≡ to + length (lineAt idSize rs ps i) → m₁ ≡ m → to₁ + length (linesFrom idSize rs ps (n - (i + 1)) (i + 1)) ≤ m₁
   fill-left m m₁ to₁ h r e em = omega (arith, both h)
 
-  pub fill-end : (d r : List ℕ) → put d to (linesFrom 20 rs ps (n - i) i) ≡ r → n ≤ i → d ≡ r
+  pub fill-end : (d r : List ℕ) → put d to (linesFrom idSize rs ps (n - i) i) ≡ r → n ≤ i → d ≡ r
   fill-end d r inv h = sym (put-none d to) ∙ (rw (lines-none rs ps n i h) at inv)
 
-  pub fill-more : (d r d₁ : List ℕ) (to₁ : ℕ) → put d to (linesFrom 20 rs ps (n - i) i) ≡ r → i < n → to + length (linesFrom 20 rs ps (n - i) i) ≤ length d → d₁ ≡ put d to (lineAt 20 rs ps i) → to₁ ≡ to + length (lineAt 20 rs ps i)
-      → put d₁ to₁ (linesFrom 20 rs ps (n - (i + 1)) (i + 1)) ≡ r
+  pub fill-more : (d r d₁ : List ℕ) (to₁ : ℕ) → put d to (linesFrom idSize rs ps (n - i) i) ≡ r → i < n → to + length (linesFrom idSize rs ps (n - i) i) ≤ length d → d₁ ≡ put d to (lineAt idSize rs ps i) → to₁ ≡ to + length (lineAt idSize rs ps i)
+      → put d₁ to₁ (linesFrom idSize rs ps (n - (i + 1)) (i + 1)) ≡ r
   fill-more d r d₁ to₁ inv h room e q =
-      rw (e, q) (put-put d (lineAt 20 rs ps i) (linesFrom 20 rs ps (n - (i + 1)) (i + 1)) to (omega arith) ∙ (rw (lines-more rs ps n i h) at inv))
+      rw (e, q) (put-put d (lineAt idSize rs ps i) (linesFrom idSize rs ps (n - (i + 1)) (i + 1)) to (omega arith) ∙ (rw (lines-more rs ps n i h) at inv))
 
 -- ---- the line of a refusal
 
@@ -238,6 +239,6 @@ module _ (number value : ℕ) (carries : Bool) (d : List ℕ) (room : length (re
       let q : next ≡ 0 + length (refusedWord ++ ds) = omega (arith, length-append refusedWord ds) in
       e₃ ∙ (λ k. put (i₂ k) (q k) (tailOf carries value)) ∙ put-put d (refusedWord ++ ds) (tailOf carries value) 0 (omega arith)
 
-pub ruleset laws = (octal-six, head-put, line-head, line-room, line-next, line-put, plus-over, plus-fits, size-start, size-end, size-turn, cap-small, fill-start, fill-fits, fill-room, fill-left, fill-end, fill-more, text-short, text-fits, text-written)
+pub ruleset laws = (octal-six, head-put, line-head, line-room, line-next, line-put, size-small, size-start, size-end, size-turn, fill-start, fill-fits, fill-room, fill-left, fill-end, fill-more, text-short, text-fits, text-written)
 
 pub ruleset refused-laws = (refused-carried, refused-alone, tail-room, tail-carried, tail-slot, tail-alone, refused-word, refused-number, refused-tail, refused-put)

@@ -3,9 +3,11 @@ ghost use mathlib.Core.Path.{_≡_};
 ghost use mathlib.Core.List.{[], _∷_, _++_};
 ghost use Prim.Native.Nat.{_+_, _%_, _≤_, _<_};
 ghost use lib.ListN.{length};
+ghost use Rattle.format.specs.Format.{idSize};
 ghost use Rattle.laws.specs.Put.{put};
 ghost use Rattle.lines.specs.Lines.{octal, headOf, lineAt, linesFrom, tailOf, refusedText};
-ghost use Rattle.lines.specs.Written.{cap, outcome, written};
+ghost use Rattle.sums.specs.Cap.{cap};
+ghost use Rattle.lines.specs.Written.{outcome, written};
 
 const NEWLINE: u8 = 10;
 
@@ -14,9 +16,6 @@ const LINE_SIZE: usize = 51;
 
 // The bytes of a line before the path.
 const HEAD_SIZE: usize = 50;
-
-// The largest number: where a size would be larger, it is this.
-const MOST: usize = 18446744073709551615;
 
 // The octal digit of the lowest three bits.
 fn octal_digit(x: u32) -> u8
@@ -54,7 +53,7 @@ fn stage_mark(stage: u32) -> [u8; 3]
 }
 
 // Writes what stands before the path: mode, id and stage.
-fn put_head(mode: u32, id: [u8; 20], stage: u32, out: &mut [u8], at: usize)
+fn put_head(mode: u32, id: [u8; format::ID_SIZE], stage: u32, out: &mut [u8], at: usize)
     requires { ⌜ stage < 4 ⌝ }
     requires { ⌜ at + 50 ≤ length (now out) ⌝ }
     ensures { λ _. ⌜ now (out .exit) ≡ put (now (out .entry)) at (headOf mode id stage) ⌝ }
@@ -69,8 +68,8 @@ fn put_head(mode: u32, id: [u8; 20], stage: u32, out: &mut [u8], at: usize)
 
 // Writes the line of record i at `at`, and answers the place behind it.
 fn put_line(records: &[u8], paths: &[u8], i: usize, out: &mut [u8], at: usize) -> usize
-    requires { ⌜ at + length (lineAt 20 (now records) (now paths) i) ≤ length (now out) ⌝ }
-    ensures { λ r. ⌜ (r ≡ at + length (lineAt 20 (now (records .entry)) (now (paths .entry)) i)) × (now (out .exit) ≡ put (now (out .entry)) at (lineAt 20 (now (records .entry)) (now (paths .entry)) i)) ⌝ }
+    requires { ⌜ at + length (lineAt idSize (now records) (now paths) i) ≤ length (now out) ⌝ }
+    ensures { λ r. ⌜ (r ≡ at + length (lineAt idSize (now (records .entry)) (now (paths .entry)) i)) × (now (out .exit) ≡ put (now (out .entry)) at (lineAt idSize (now (records .entry)) (now (paths .entry)) i)) ⌝ }
 {
     let mode = entry::mode_at(records, i);
     let id = entry::id_at(records, i);
@@ -85,24 +84,16 @@ fn put_line(records: &[u8], paths: &[u8], i: usize, out: &mut [u8], at: usize) -
     last + 1
 }
 
-// The sum, or the largest number where that does not fit.
-fn plus(a: usize, b: usize) -> usize
-    ensures { λ r. ⌜ r ≡ cap (a + b) ⌝ }
-{
-    let room = MOST - a;
-    if room < b { MOST } else { a + b }
-}
-
 // How long the lines of the first n records are.
 fn size_lines(records: &[u8], paths: &[u8], n: usize) -> usize
-    ensures { λ r. ⌜ r ≡ cap (length (linesFrom 20 (now (records .entry)) (now (paths .entry)) n 0)) ⌝ }
+    ensures { λ r. ⌜ r ≡ cap (length (linesFrom idSize (now (records .entry)) (now (paths .entry)) n 0)) ⌝ }
 {
     let mut size: usize = 0;
     let mut i: usize = 0;
     while i < n {
         let path = entry::path_of(records, paths, i);
         let line = LINE_SIZE + path.len();
-        size = plus(size, line);
+        size = sums::saturating_add(size, line);
         i += 1;
     }
     size
@@ -110,8 +101,8 @@ fn size_lines(records: &[u8], paths: &[u8], n: usize) -> usize
 
 // Writes the lines of the first n records at the start of out.
 fn fill_lines(records: &[u8], paths: &[u8], n: usize, out: &mut [u8])
-    requires { ⌜ length (linesFrom 20 (now records) (now paths) n 0) ≤ length (now out) ⌝ }
-    ensures { λ _. ⌜ now (out .exit) ≡ put (now (out .entry)) 0 (linesFrom 20 (now (records .entry)) (now (paths .entry)) n 0) ⌝ }
+    requires { ⌜ length (linesFrom idSize (now records) (now paths) n 0) ≤ length (now out) ⌝ }
+    ensures { λ _. ⌜ now (out .exit) ≡ put (now (out .entry)) 0 (linesFrom idSize (now (records .entry)) (now (paths .entry)) n 0) ⌝ }
 {
     let mut at: usize = 0;
     let mut i: usize = 0;
@@ -123,7 +114,7 @@ fn fill_lines(records: &[u8], paths: &[u8], n: usize, out: &mut [u8])
 
 // Writes the lines of the first n records, if they fit, and answers how long they are.
 pub fn write_records(records: &[u8], paths: &[u8], n: usize, out: &mut [u8]) -> usize
-    ensures { λ r. ⌜ outcome r (now (out .exit)) ≡ written (linesFrom 20 (now (records .entry)) (now (paths .entry)) n 0) (now (out .entry)) ⌝ }
+    ensures { λ r. ⌜ outcome r (now (out .exit)) ≡ written (linesFrom idSize (now (records .entry)) (now (paths .entry)) n 0) (now (out .entry)) ⌝ }
 {
     let size = size_lines(records, paths, n);
     if out.len() < size {

@@ -1,4 +1,4 @@
-// Lists each of its files, which git made; its stdout is what git printed of them (tests/make-indexes made both).
+// Lists each of its files, which git made; its stdout is what git printed of them (tests/make/list_indexes made both).
 use libc::STDOUT_FILENO;
 
 // Writes a text that was put at the start of out.

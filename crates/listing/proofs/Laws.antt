@@ -7,20 +7,22 @@ use native.Mathlib.Omega.{arith}
 use lib.ListN.{length, drop, replicate}
 use lib.Seq.{paste}
 use borrow.Author.Tests.{lt-ltb, le-ltb, eq-eqb, ne-eqb}
+use Rattle.format.specs.Format.{depthLimit, idSize}
 use Rattle.lines.specs.Lines.{linesFrom, refusedText}
-use Rattle.lines.specs.Written.{Outcome, outcome, written, copied, cap-fits, text-short, text-written}
-use Rattle.file.specs.Answer.{numberOf, carriesOf, carriedOf}
+use Rattle.sums.specs.Cap.{cap-fits}
+use Rattle.lines.specs.Written.{Outcome, outcome, written, copied, text-short, text-written}
+use Rattle.file.specs.Answer.{numberOf, carriesOf, valueOf}
 use Rattle.file.specs.Read as read
 use Rattle.file.specs.declared.Answer.{Answer}
 use Rattle.file.specs.declared.Answer.the-variants.{Read}
 use Rattle.listing.specs.Listed.{recordsOf, textOf, tooBig, textOfOutcome, listed}
 
 module _ (a : Answer) (rs ps out : List ℕ) (number : ℕ) (is : number ≡ numberOf a) (o : Outcome) where
-  pub answer-read : number ≡ 0 → (n : ℕ) → n ≡ recordsOf a → o ≡ written (linesFrom 20 rs ps n 0) out → o ≡ written (textOf 20 a rs ps) out
+  pub answer-read : number ≡ 0 → (n : ℕ) → n ≡ recordsOf a → o ≡ written (linesFrom idSize rs ps n 0) out → o ≡ written (textOf idSize a rs ps) out
   unfolding textOf
-  answer-read z n en e = e ∙ ap (λ (k : ℕ). written (linesFrom 20 rs ps k 0) out) en ∙ sym (rw (← is, eq-eqb number 0 z))
+  answer-read z n en e = e ∙ ap (λ (k : ℕ). written (linesFrom idSize rs ps k 0) out) en ∙ sym (rw (← is, eq-eqb number 0 z))
 
-  pub answer-refused : (number ≡ 0 → ⊥) → (carries : Bool) (value : ℕ) → carries ≡ carriesOf a → value ≡ carriedOf a → o ≡ written (refusedText number carries value) out → o ≡ written (textOf 20 a rs ps) out
+  pub answer-refused : (number ≡ 0 → ⊥) → (carries : Bool) (value : ℕ) → carries ≡ carriesOf a → value ≡ valueOf a → o ≡ written (refusedText number carries value) out → o ≡ written (textOf idSize a rs ps) out
   unfolding textOf
   answer-refused z carries value ec ev e = e ∙ (λ k. written (refusedText number (ec k) (ev k)) out) ∙ sym (rw (← is, ne-eqb number 0 z))
 
@@ -28,14 +30,14 @@ pub records-read : (a : Answer) (version : ℕ) (sparse tree : Bool) (n paths no
 records-read a version sparse tree n paths nodes e = sym (ap recordsOf e)
 
 module _ (s out : List ℕ) (o : Outcome) where
-  pub listed-big : 65536 < length s → o ≡ written tooBig out → o ≡ written (listed 20 64 s) out
+  pub listed-big : 65536 < length s → o ≡ written tooBig out → o ≡ written (listed idSize depthLimit s) out
   unfolding listed
   listed-big h e = e ∙ sym (rw (lt-ltb 65536 (length s) h))
 
-  pub listed-read : length s ≤ 65536 → (a : Answer) (rs ps ns : List ℕ) → read.outcome a rs ps ns ≡ read.readFile 20 64 s (replicate 49152 0) (replicate 65536 0) (replicate 18432 0)
-      → o ≡ written (textOf 20 a rs ps) out → o ≡ written (listed 20 64 s) out
+  pub listed-read : length s ≤ 65536 → (a : Answer) (rs ps ns : List ℕ) → read.outcome a rs ps ns ≡ read.readFile idSize depthLimit s (replicate 49152 0) (replicate 65536 0) (replicate 18432 0)
+      → o ≡ written (textOf idSize a rs ps) out → o ≡ written (listed idSize depthLimit s) out
   unfolding listed
-  listed-read h a rs ps ns er e = e ∙ ap (λ (q : read.Outcome). written (textOfOutcome 20 q) out) er ∙ sym (rw (le-ltb 65536 (length s) h))
+  listed-read h a rs ps ns er e = e ∙ ap (λ (q : read.Outcome). written (textOfOutcome idSize q) out) er ∙ sym (rw (le-ltb 65536 (length s) h))
 
 pub too-short : (out : List ℕ) → length out < 8 → outcome 8 out ≡ written tooBig out
 too-short out h = text-short tooBig out 8 (sym (cap-fits 8 (omega arith))) h

@@ -42,7 +42,7 @@ use Rattle.node.specs.Store.{nodeSize}
 use Rattle.tree.specs.Tree.{readTree}
 use Rattle.tree.specs.declared.TreeAnswer.{TreeAnswer}
 use Rattle.tree.specs.declared.TreeAnswer.the-variants as grown
-use Rattle.file.specs.Answer.{numberOf, carriesOf, carriedOf}
+use Rattle.file.specs.Answer.{numberOf, carriesOf, valueOf}
 use Rattle.file.specs.Read.{Outcome, outcome, marked, grownInto, onWalked, extensionsInto, nothingBefore, onEntries, afterEntries, entriesInto, onHeader, readFile}
 use Rattle.file.specs.Trailer.{goodTrailer}
 use Rattle.file.specs.declared.Entries.{Entries}
@@ -50,6 +50,7 @@ use Rattle.file.specs.declared.Answer.{Answer}
 use Rattle.file.specs.declared.Answer.the-variants as answer
 use Rattle.lines.specs.Lines.{lineAt, linesFrom, refusedText}
 use Rattle.lines.specs.Written as lines
+use Rattle.sums.specs.Cap.{cap, cap-fits}
 use Rattle.lines.proofs.Laws.{line-length, digits-fit, refused-carried, refused-alone}
 use Rattle.wire.specs.Written.{digitsOf}
 use Rattle.listing.specs.Listed.{textOf, textOfOutcome, tooBig, listed}
@@ -146,9 +147,9 @@ refusal-short number value true h k =
     omega (arith, refused-carried number value (length (digitsOf 10 number)) (length (digitsOf 10 value)) true refl refl refl, digits-fit number _ refl h, digits-fit value _ refl k)
 refusal-short number value false h k = omega (arith, refused-alone number value (length (digitsOf 10 number)) 0 false refl refl, digits-fit number _ refl h)
 
-answer-short : (a : Answer) (rs ps : List ℕ) → (numberOf a ≡ 0 → ⊥) → numberOf a ≤ most → carriedOf a ≤ most → length (textOf idSize a rs ps) ≤ refusalRoom
+answer-short : (a : Answer) (rs ps : List ℕ) → (numberOf a ≡ 0 → ⊥) → numberOf a ≤ most → valueOf a ≤ most → length (textOf idSize a rs ps) ≤ refusalRoom
 unfolding textOf
-answer-short a rs ps d h k = rw (ne-eqb (numberOf a) 0 d) (refusal-short (numberOf a) (carriedOf a) (carriesOf a) h k)
+answer-short a rs ps d h k = rw (ne-eqb (numberOf a) 0 d) (refusal-short (numberOf a) (valueOf a) (carriesOf a) h k)
 
 -- ---- what was read, and what was refused
 
@@ -167,7 +168,7 @@ module _ (s : List ℕ) (bytes : (i : ℕ) → getD s i 0 < 256) (m : ℕ) (line
     abbrev Fits : Answer → Type 0
     Fits a = length (textOf idSize a rs ps) ≤ m
 
-    refusal-fits : (a : Answer) → (numberOf a ≡ 0 → ⊥) → numberOf a ≤ most → carriedOf a ≤ most → Fits a
+    refusal-fits : (a : Answer) → (numberOf a ≡ 0 → ⊥) → numberOf a ≤ most → valueOf a ≤ most → Fits a
     refusal-fits a d h k = omega (arith, answer-short a rs ps d h k)
 
     tree-fits : (e : Entries) → length (linesFrom idSize rs ps (e .records) 0) ≤ m → (t : TreeAnswer × List ℕ) → Fits (grownInto e t .0)
@@ -191,7 +192,7 @@ module _ (s : List ℕ) (bytes : (i : ℕ) → getD s i 0 < 256) (m : ℕ) (line
           by : {v : ℕ} → SaysWalk s next (length s - idSize) TREE (walked.Mandatory v) → v ≤ most
           by (is-mandatory c f) = mandatory-small c f
 
-      extensions-fit : Fits (extensionsInto idSize depthLimit s next e ns .0)
+      extensions-fit : Fits (extensionsInto idSize depthLimit s next (length s - idSize) e ns .0)
       unfolding extensionsInto
       extensions-fit = walked-fits (walkAt s next (length s - idSize) TREE) refl
 
@@ -267,8 +268,8 @@ module _ (s : List ℕ) (bytes : (i : ℕ) → getD s i 0 < 256) where
   unfolding lines.written
   listing-within r out out′ e =
       let n : length (listed idSize depthLimit s) ≤ listingRoom = every-listing-fits in
-      let q : r ≡ lines.cap (length (listed idSize depthLimit s)) = ap (λ (o : lines.Outcome). o .size) e in
-      omega (arith, lines.cap-fits (length (listed idSize depthLimit s)) (omega arith))
+      let q : r ≡ cap (length (listed idSize depthLimit s)) = ap (λ (o : lines.Outcome). o .size) e in
+      omega (arith, cap-fits (length (listed idSize depthLimit s)) (omega arith))
 
   -- and, where it is lent, puts the whole text
   pub listing-whole : (r : ℕ) (out out′ : List ℕ) → lines.outcome r out′ ≡ lines.written (listed idSize depthLimit s) out → listingRoom ≤ length out
@@ -277,6 +278,6 @@ module _ (s : List ℕ) (bytes : (i : ℕ) → getD s i 0 < 256) where
   listing-whole r out out′ e h =
       let text : List ℕ = listed idSize depthLimit s in
       let n : length text ≤ listingRoom = every-listing-fits in (
-        ap (λ (o : lines.Outcome). o .size) e ∙ lines.cap-fits (length text) (omega arith),
+        ap (λ (o : lines.Outcome). o .size) e ∙ cap-fits (length text) (omega arith),
         ap (λ (o : lines.Outcome). o .out) e ∙ ap (λ (t : Bool). pick t out (put out 0 text)) (le-ltb (length out) (length text) (omega arith)),
       )

@@ -5,7 +5,7 @@ use mathlib.Core.List.{List, [], _∷_}
 use lib.Dec.{ltb, eqb}
 use lib.ListN.{length, replicate}
 use Rattle.laws.specs.Pick.{pick}
-use Rattle.file.specs.Answer.{numberOf, carriesOf, carriedOf}
+use Rattle.file.specs.Answer.{numberOf, carriesOf, valueOf}
 use Rattle.file.specs.Read.{Outcome, readFile}
 use Rattle.file.specs.declared.Answer.{Answer}
 use Rattle.file.specs.declared.Answer.the-variants.{Read, ShortFile, NoSignature, OtherVersion, BadTrailer, NotSpelled, NoEntryRoom, NotFilled, Mandatory, TooDeep, NoNodeRoom}
@@ -27,7 +27,7 @@ recordsOf NoNodeRoom = 0
 
 -- number 0 is a file that was read: a line for each record; any other is a refusal: one line
 unfoldable pub textOf : ℕ → Answer → List ℕ → List ℕ → List ℕ
-textOf id a rs ps = pick (eqb (numberOf a) 0) (linesFrom id rs ps (recordsOf a) 0) (refusedText (numberOf a) (carriesOf a) (carriedOf a))
+textOf id a rs ps = pick (eqb (numberOf a) 0) (linesFrom id rs ps (recordsOf a) 0) (refusedText (numberOf a) (carriesOf a) (valueOf a))
 
 -- "too big" and a newline
 abbrev pub tooBig : List ℕ

@@ -3,6 +3,7 @@ ghost use mathlib.Core.Path.{_≡_};
 ghost use Rattle.lines.specs.Written.{outcome, written};
 ghost use Rattle.listing.specs.Listed.{recordsOf, textOf, tooBig, listed};
 use file::Answer;
+ghost use Rattle.format.specs.Format.{depthLimit, idSize};
 
 // The largest file that the listing program reads, and the room that it lends: 512 records, 65,536 path bytes and 256 nodes.
 const MOST_BYTES: usize = 65536;
@@ -45,7 +46,7 @@ fn records_of(answer: Answer) -> usize
 // Writes an answer as text at the start of out: the lines of its records, or one line that names the refusal. Answers how long the text is; where it does not fit, out
 // stays as it was.
 pub fn write_lines(answer: Answer, records: &[u8], paths: &[u8], out: &mut [u8]) -> usize
-    ensures { λ r. ⌜ outcome r (now (out .exit)) ≡ written (textOf 20 answer (now (records .entry)) (now (paths .entry))) (now (out .entry)) ⌝ }
+    ensures { λ r. ⌜ outcome r (now (out .exit)) ≡ written (textOf idSize answer (now (records .entry)) (now (paths .entry))) (now (out .entry)) ⌝ }
 {
     let number = file::number(answer);
     if number == 0 {
@@ -70,7 +71,7 @@ fn write_too_big(out: &mut [u8]) -> usize
 
 // Writes what the listing program prints of a file, and answers how long that is; where it does not fit, out stays as it was.
 pub fn list_file(file: &[u8], out: &mut [u8]) -> usize
-    ensures { λ r. ⌜ outcome r (now (out .exit)) ≡ written (listed 20 64 (now (file .entry))) (now (out .entry)) ⌝ }
+    ensures { λ r. ⌜ outcome r (now (out .exit)) ≡ written (listed idSize depthLimit (now (file .entry))) (now (out .entry)) ⌝ }
 {
     if MOST_BYTES < file.len() {
         return write_too_big(out);

@@ -9,7 +9,7 @@ use Rattle.laws.specs.Pick.{pick}
 use Rattle.slices.specs.Bytes.{nulAt}
 use Rattle.slices.specs.declared.Ends.{Ends}
 use Rattle.slices.specs.declared.Ends.the-variants.{With, Never}
-use Rattle.format.specs.Format.{longPath}
+use Rattle.format.specs.Format.{fixedExtendedSize, longPath}
 use Rattle.wire.specs.Places.{fileAt}
 use Rattle.wire.specs.BigEndian.{beAt}
 use Rattle.wire.specs.Groups.{numberAt}
@@ -64,7 +64,7 @@ headAt id s at end =
 pub record HeadFits (n at end size field : ℕ) : Type 0 where
   pub file : end ≤ n
   pub inside : at + size ≤ end
-  pub small : size ≤ 64
+  pub small : size ≤ fixedExtendedSize
   pub short : field < 4096
 
 -- the length of an entry whose fixed part has size bytes and whose path has len: 1 to 8 bytes more, to a multiple of 8

@@ -19,6 +19,7 @@ use Rattle.wire.specs.BigEndian.{beAt}
 use Rattle.wire.specs.Groups.{numberAt}
 use Rattle.wire.specs.declared.Number.{Number}
 use Rattle.wire.specs.declared.Number.the-variants.{Is, Cut, Over}
+use Rattle.format.specs.Format.{idSize}
 use Rattle.entry.specs.Flags.{bit, extended, toMemory, extendedToMemory}
 use Rattle.entry.specs.declared.flags.Extended.{Extended}
 use Rattle.entry.specs.declared.flags.Extended.the-variants.{Kept, Unknown}
@@ -29,7 +30,7 @@ use Rattle.measure.specs.declared.Left.the-variants.{Bytes, TooFew}
 use Rattle.measure.specs.declared.Measured.{Measured}
 use Rattle.measure.specs.declared.Measured.the-variants.{Entry, Short, Fault}
 use Rattle.measure.specs.Entry.{onExtended, extendedAt, headWith, headAt, HeadFits, wholeOf, paddedTo, onEnds, onNumber, onLeft, onHead, paddedAt, keptOf, suffixedAt, compressedAt, measureAt}
-use Rattle.measure.specs.Laws.{number-fits}
+use Rattle.measure.specs.Numbers.{number-fits}
 
 -- ---- the padding: for every fixed length and path length the entry is a multiple of 8 long, and the padding is 1 to 8
 pub record Padded (size len whole : ℕ) : Type 0 where
@@ -104,15 +105,15 @@ head-all id s i end f n g e =
     let u = with-sized id s i end bits f n g (bit extended (toMemory bits)) (omega arith) (r .1) in
     record { file = h₁; inside = u .inside; least = u .least; most = u .most; short = u .short }
 
-pub head-fits : (s : List ℕ) (i end f n g : ℕ) (h : Head) → h ≡ headAt 20 s i end → h ≡ Fixed f n g → HeadFits (length s) i end n g
+pub head-fits : (s : List ℕ) (i end f n g : ℕ) (h : Head) → h ≡ headAt idSize s i end → h ≡ Fixed f n g → HeadFits (length s) i end n g
 head-fits s i end f n g h e q =
-    let a : HeadAll 20 s i end n g = head-all 20 s i end f n g (sym e ∙ q) in
+    let a : HeadAll idSize s i end n g = head-all idSize s i end f n g (sym e ∙ q) in
     record { file = a .file; inside = a .inside; small = a .most; short = a .short }
 
-pub head-file : (s : List ℕ) (i end f n g : ℕ) (h : Head) → h ≡ headAt 20 s i end → h ≡ Fixed f n g → end ≤ length s
+pub head-file : (s : List ℕ) (i end f n g : ℕ) (h : Head) → h ≡ headAt idSize s i end → h ≡ Fixed f n g → end ≤ length s
 head-file s i end f n g h e q = head-fits s i end f n g h e q .file
 
-pub head-room : (s : List ℕ) (i end f n g : ℕ) (h : Head) → h ≡ headAt 20 s i end → h ≡ Fixed f n g → i + n ≤ end
+pub head-room : (s : List ℕ) (i end f n g : ℕ) (h : Head) → h ≡ headAt idSize s i end → h ≡ Fixed f n g → i + n ≤ end
 head-room s i end f n g h e q = head-fits s i end f n g h e q .inside
 
 -- ---- the entry: it lies before `end`, and keeps no more than there is

@@ -18,8 +18,7 @@ use Rattle.slices.specs.declared.Ends.{Ends}
 use Rattle.slices.specs.declared.Ends.the-variants.{With, Never}
 use Rattle.wire.specs.Places.{fileAt}
 use Rattle.wire.specs.BigEndian.{beAt}
-use Rattle.wire.specs.Groups.{groupsIn, numberAt}
-use Rattle.wire.specs.Laws.{groups-last}
+use Rattle.wire.specs.Groups.{groupsIn, numberAt, groups-end}
 use Rattle.wire.specs.declared.FileAt.{FileAt}
 use Rattle.wire.specs.declared.Number.{Number}
 use Rattle.wire.specs.declared.Number.the-variants.{Is, Cut, Over}
@@ -33,7 +32,7 @@ use Rattle.measure.specs.declared.Left.the-variants.{Bytes, TooFew}
 use Rattle.measure.specs.declared.Measured.{Measured}
 use Rattle.measure.specs.declared.Measured.the-variants.{Entry, Short, Fault}
 use Rattle.measure.specs.Entry.{onExtended, extendedAt, headWith, headAt, wholeOf, paddedTo, onEnds, onNumber, onLeft, onHead, paddedAt, keptOf, suffixedAt, compressedAt, measureAt}
-use Rattle.measure.specs.Laws.{groups-fit}
+use Rattle.measure.specs.Numbers.{groups-fit}
 use Rattle.measure.specs.Inside.{HeadAll, head-all, Padded, padding}
 use Rattle.measure.specs.Settled.{Continues, goOn, goOnEnds, number-on, nul-on, word-same, word-of, head-stays}
 
@@ -52,7 +51,7 @@ module _ (id : ℕ) (s t : List ℕ) (end stop : ℕ) (c : Continues s t end sto
   zero-number : (i a : ℕ) → end ≤ i → i < stop → groupsIn (stop - i) (drop i t) i a ≡ Is (a * 128) (i + 1)
   zero-number i a h l =
       let e : a * 128 + 0 % 128 ≡ a * 128 = omega arith in
-      sym (groups-last t i stop a (groupsIn (stop - i) (drop i t) i a) refl 0 (sym (zeros i h)) l (c .there) (lit< tt)) ∙ ap (λ (x : ℕ). Is x (i + 1)) e
+      groups-end t i stop a 0 (sym (zeros i h)) l (c .there) (lit< tt) ∙ ap (λ (x : ℕ). Is x (i + 1)) e
 
   zero-nul : (i : ℕ) → end ≤ i → i < stop → nulIn (stop - i) (drop i t) i ≡ With i
   zero-nul i h l = sym (nul-here t i stop (nulIn (stop - i) (drop i t) i) refl l (c .there) (zeros i h))

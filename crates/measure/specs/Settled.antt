@@ -30,7 +30,7 @@ use Rattle.measure.specs.declared.Left.the-variants.{Bytes, TooFew}
 use Rattle.measure.specs.declared.Measured.{Measured}
 use Rattle.measure.specs.declared.Measured.the-variants.{Entry, Short, Fault}
 use Rattle.measure.specs.Entry.{onExtended, extendedAt, headWith, headAt, wholeOf, paddedTo, onEnds, onNumber, onLeft, onHead, paddedAt, keptOf, suffixedAt, compressedAt, measureAt}
-use Rattle.measure.specs.Laws.{groups-fit, groups-cut-fit, NumberFits, CutFits}
+use Rattle.measure.specs.Numbers.{groups-fit, groups-cut-fit, NumberFits, CutFits}
 use Rattle.measure.specs.Inside.{head-all}
 
 -- two bytes that come to a multiple of 32 * 256: the lower is 0

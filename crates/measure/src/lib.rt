@@ -3,7 +3,7 @@
 ghost use mathlib.Core.Path.{_≡_};
 ghost use Prim.Native.Nat.{_+_, _*_, _/_, _%_, _^_, _≤_, _<_};
 ghost use lib.ListN.{length};
-ghost use Rattle.format.specs.Format.{idSize};
+ghost use Rattle.format.specs.Format.{fixedExtendedSize, idSize};
 ghost use Rattle.measure.specs.Entry.{extendedAt, headAt, HeadFits, paddedTo, paddedAt, keptOf, suffixedAt, compressedAt, measureAt};
 use entry::flags::Extended;
 use slices::Ends;
@@ -104,7 +104,7 @@ fn read_head(file: &[u8], at: usize, end: usize) -> Head
 
 // The entry's end where its path has len bytes, after `size` bytes of fixed length: 1 to 8 bytes of padding.
 fn padded_to(at: usize, end: usize, flags: u32, size: usize, len: usize) -> Measured
-    requires { ⌜ (at ≤ end) × (size ≤ 64) ⌝ }
+    requires { ⌜ (at ≤ end) × (size ≤ fixedExtendedSize) ⌝ }
     requires { ⌜ (end < 2 ^ 63) × (len < 2 ^ 63) ⌝ }
     ensures { λ r. ⌜ r ≡ paddedTo at end flags size len ⌝ }
 {

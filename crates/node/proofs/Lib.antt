@@ -1,1 +1,2 @@
--- The proofs of node use the laws of specs/Laws.antt.
+-- What the proofs of node cite. Assumes nothing.
+pub mod Laws

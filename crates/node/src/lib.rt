@@ -5,6 +5,7 @@ ghost use Prim.Native.Nat.{_+_, _*_, _-_, _/_, _≤_, _<_};
 ghost use lib.ListN.{length};
 ghost use lib.Seq.{paste};
 ghost use Rattle.wire.specs.Places.{fileAt};
+ghost use Rattle.format.specs.Format.{idSize};
 ghost use Rattle.node.specs.Head.{spacedAt, endedAt, headAt};
 ghost use Rattle.node.specs.Store.{numbersOf, putAt, wordAt, nameStartAt, nameEndAt, countAt, subtreesAt, parentAt, idAt, nameInside, nameAt, nodesIn};
 use slices::Ends;
@@ -109,7 +110,7 @@ fn ended(
 
 // The head of the node at `at`, of a tree whose bytes end at `end`.
 pub fn node_head(file: &[u8], at: usize, end: usize) -> Head
-    ensures { λ r. ⌜ r ≡ headAt 20 (now (file .entry)) at end ⌝ }
+    ensures { λ r. ⌜ r ≡ headAt idSize (now (file .entry)) at end ⌝ }
 {
     if file.len() < end {
         return Head::Nothing;
@@ -231,7 +232,7 @@ pub fn parent(nodes: &[u8], i: usize) -> u64
 
 // The id of node i as the store has it, which is zeros for a node that was read and has none; empty where there is no such node.
 pub fn id(nodes: &[u8], i: usize) -> &[u8]
-    ensures { λ r. ⌜ now r ≡ idAt 20 (now (nodes .entry)) i ⌝ }
+    ensures { λ r. ⌜ now r ≡ idAt idSize (now (nodes .entry)) i ⌝ }
 {
     if i < nodes.len() / NODE_SIZE {
         let from = i * NODE_SIZE + ID;

@@ -12,6 +12,7 @@ use Rattle.laws.specs.Pick.{pick}
 use Rattle.slices.specs.Bytes.{nulAt}
 use Rattle.slices.specs.declared.Ends.{Ends}
 use Rattle.slices.specs.declared.Ends.the-variants.{With, Never}
+use Rattle.format.specs.Format.{depthLimit}
 use Rattle.node.specs.Head.{countHalf, minusOne}
 use Rattle.node.specs.Store.{nodesIn, countAt, subtreesAt, parentAt, nameInside, nameAt}
 use Rattle.siblings.specs.Siblings.{isChild, siblingsDiffer}
@@ -73,21 +74,21 @@ module _ (ns : List ℕ) (left i : ℕ) (r : Bool) (inv : climbs ns left i ≡ r
       ap (λ (x : ℕ). climbs ns (left - 1) x) e ∙ climb-step ns (left - 1) i k ∙ ap (λ (x : ℕ). climbs ns x i) z ∙ inv
 
 module _ (ns nm : List ℕ) (i : ℕ) (a : Bool) (ea : a ≡ parentFits ns i) where
-  pub fits-parent : a ≡ false → false ≡ nodeFits 64 ns nm i
+  pub fits-parent : a ≡ false → false ≡ nodeFits depthLimit ns nm i
   unfolding nodeFits
   fits-parent h = sym (rw (sym ea ∙ h))
 
   module _ (h : a ≡ true) (b : Bool) (eb : b ≡ countFits ns i) where
-    pub fits-count : b ≡ false → false ≡ nodeFits 64 ns nm i
+    pub fits-count : b ≡ false → false ≡ nodeFits depthLimit ns nm i
     unfolding nodeFits
     fits-count k = sym (rw (sym ea ∙ h, sym eb ∙ k))
 
     module _ (k : b ≡ true) (c : Bool) (ec : c ≡ nameFits ns nm i) where
-      pub fits-name : c ≡ false → false ≡ nodeFits 64 ns nm i
+      pub fits-name : c ≡ false → false ≡ nodeFits depthLimit ns nm i
       unfolding nodeFits
       fits-name l = sym (rw (sym ea ∙ h, sym eb ∙ k, sym ec ∙ l))
 
-      pub fits-depth : c ≡ true → (t : Bool) → t ≡ climbs ns 64 i → t ≡ nodeFits 64 ns nm i
+      pub fits-depth : c ≡ true → (t : Bool) → t ≡ climbs ns depthLimit i → t ≡ nodeFits depthLimit ns nm i
       unfolding nodeFits
       fits-depth l t q = q ∙ sym (rw (sym ea ∙ h, sym eb ∙ k, sym ec ∙ l))
 
@@ -107,9 +108,13 @@ unfolding childCount
 count-cut ns p n j h = let z : n - j ≡ suc (n - (j + 1)) = omega arith in rw z
 
 module _ (ns : List ℕ) (p n count j : ℕ) (inv : Counting ns p n count j) where
-  pub counting-end : n ≤ j → count ≡ childCount ns p (n - 1) 1
+  pub counting-end : n ≤ j → n ≡ nodesIn ns → count ≡ childCount ns p (nodesIn ns - 1) 1
   unfolding childCount
-  counting-end h = let z : n - j ≡ 0 = omega arith in let y : childCount ns p (n - j) j ≡ 0 = rw z in omega (arith, inv .run)
+  counting-end h e =
+      let z : n - j ≡ 0 = omega arith in
+      let y : childCount ns p (n - j) j ≡ 0 = rw z in
+      let whole : count ≡ childCount ns p (n - 1) 1 = omega (arith, inv .run) in
+      whole ∙ ap (λ (k : ℕ). childCount ns p (k - 1) 1) e
 
   module _ (h : j < n) (q : ℕ) (e : q ≡ parentAt ns j) where
     pub counting-one : q ≡ p → Counting ns p n (count + 1) (j + 1)
@@ -127,9 +132,9 @@ module _ (ns nm : List ℕ) (i said count : ℕ) (es : said ≡ subtreesAt ns i)
   unfolding kidsFit
   kids-miscounted h = sym (rw (← es, ← ec, ne-eqb said count h))
 
-  pub kids-counted : said ≡ count → (t : Bool) → t ≡ siblingsDiffer nm ns i 1 (nodesIn ns) → t ≡ kidsFit ns nm i
+  pub kids-counted : said ≡ count → (t : Bool) (n : ℕ) → t ≡ siblingsDiffer nm ns i 1 n → n ≡ nodesIn ns → t ≡ kidsFit ns nm i
   unfolding kidsFit
-  kids-counted h t q = q ∙ sym (rw (← es, ← ec, eq-eqb said count h))
+  kids-counted h t n q e = q ∙ ap (λ (k : ℕ). siblingsDiffer nm ns i 1 k) e ∙ sym (rw (← es, ← ec, eq-eqb said count h))
 
 -- ---- all of them
 
@@ -148,23 +153,23 @@ module _ (p : ℕ → Bool) (n i : ℕ) (r : Bool) (inv : allIn p (n - i) i ≡ 
   pub all-not : i < n → (t : Bool) → t ≡ p i → t ≡ false → false ≡ r
   all-not h t e k = sym (ap (λ (b : Bool). pick b (allIn p (n - (i + 1)) (i + 1)) false) k) ∙ cut t h e
 
-pub all-start : (p : ℕ → Bool) (n : ℕ) → allIn p (n - 0) 0 ≡ allIn p n 0
-all-start p n = rw sub-zero
+pub all-start : (p : ℕ → Bool) (n m : ℕ) → n ≡ m → allIn p (n - 0) 0 ≡ allIn p m 0
+all-start p n m e = rw (sub-zero n, e)
 
 module _ (ns nm : List ℕ) where
-  pub proper-empty : length ns < 72 → false ≡ isProper 64 ns nm
+  pub proper-empty : length ns < 72 → false ≡ isProper depthLimit ns nm
   unfolding isProper
   proper-empty h = let l : nodesIn ns ≤ 0 = omega arith in sym (rw (le-ltb 0 (nodesIn ns) l))
 
-  module _ (h : 72 ≤ length ns) (a : Bool) (ea : a ≡ nodesFit 64 ns nm) where
+  module _ (h : 72 ≤ length ns) (a : Bool) (ea : a ≡ nodesFit depthLimit ns nm) where
     some : 0 < nodesIn ns
     some = omega arith
 
-    pub proper-nodes : a ≡ false → false ≡ isProper 64 ns nm
+    pub proper-nodes : a ≡ false → false ≡ isProper depthLimit ns nm
     unfolding isProper
     proper-nodes k = sym (rw (lt-ltb 0 (nodesIn ns) some, sym ea ∙ k))
 
-    pub proper-kids : a ≡ true → (t : Bool) → t ≡ allKidsFit ns nm → t ≡ isProper 64 ns nm
+    pub proper-kids : a ≡ true → (t : Bool) → t ≡ allKidsFit ns nm → t ≡ isProper depthLimit ns nm
     unfolding isProper
     proper-kids k t q = q ∙ sym (rw (lt-ltb 0 (nodesIn ns) some, sym ea ∙ k))
 

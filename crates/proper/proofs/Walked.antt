@@ -9,6 +9,7 @@ use borrow.Author.Tests.{eq-eqb, ne-eqb}
 use Rattle.laws.specs.Pick.{pick}
 use Rattle.laws.specs.Tests.{lt-or-ge}
 use Rattle.laws.specs.Order.{Before}
+use Rattle.format.specs.Format.{depthLimit}
 use Rattle.node.specs.Store.{nodesIn, subtreesAt, parentAt}
 use Rattle.walk_order.specs.Walk.{walks, nextChild}
 use Rattle.walk_order.specs.Child.{Next, next-first, child-behind, is-walk}
@@ -73,9 +74,9 @@ pub record Seeing (ns nm : List ℕ) (p x y count : ℕ) (so : Rising) : Type 0 
   pub run : count + childCount ns p (nodesIn ns - (x + 1)) (x + 1) ≡ childCount ns p (nodesIn ns - 1) 1
   pub order : SoFar nm ns p (x + 1) so
 
-module _ (ns nm : List ℕ) (p : ℕ) (w : walks 64 ns ≡ true) where
+module _ (ns nm : List ℕ) (p : ℕ) (w : walks depthLimit ns ≡ true) where
   behind : (j : ℕ) → 0 < j → j < nodesIn ns → parentAt ns j ≡ p → p < j
-  behind j h l e = subst (λ (z : ℕ). z < j) e (child-behind 64 ns w j h l)
+  behind j h l e = subst (λ (z : ℕ). z < j) e (child-behind depthLimit ns w j h l)
 
   pub seeing-start : p < nodesIn ns → (y : ℕ) → y ≡ nextChild ns p p → Seeing ns nm p p y 0 (record { last = p; bytes = true; git = true })
   seeing-start h y e =
@@ -87,7 +88,7 @@ module _ (ns nm : List ℕ) (p : ℕ) (w : walks 64 ns ≡ true) where
 
   module _ (x y count : ℕ) (so : Rising) (inv : Seeing ns nm p x y count so) where
     following : Next ns p x y
-    following = subst (λ (z : ℕ). Next ns p x z) (sym (inv .next)) (next-first 64 ns w p x (inv .low))
+    following = subst (λ (z : ℕ). Next ns p x z) (sym (inv .next)) (next-first depthLimit ns w p x (inv .low))
 
     found : (y ≡ 0 → ⊥) → (x < y) × ((y < nodesIn ns) × (parentAt ns y ≡ p))
     found h = following .found h

@@ -3,6 +3,7 @@ ghost use mathlib.Core.Bool.{true};
 ghost use mathlib.Core.Path.{_≡_};
 ghost use Prim.Native.Nat.{_-_, _<_};
 ghost use Rattle.laws.specs.Pick.{pick};
+ghost use Rattle.format.specs.Format.{depthLimit};
 ghost use Rattle.node.specs.Store.{nodesIn};
 ghost use Rattle.proper.specs.Proper.{parentFits, countFits, holdsNone, nameFits, climbs, nodeFits, childCount, kidsFit, nodesFit, allKidsFit, isProper};
 ghost use Rattle.walk_order.specs.Walk.{walks};
@@ -73,7 +74,7 @@ fn climbs(nodes: &[u8], levels: usize, i: usize) -> bool
 }
 
 fn node_fits(nodes: &[u8], names: &[u8], i: usize) -> bool
-    ensures { λ r. ⌜ r ≡ nodeFits 64 (now (nodes .entry)) (now (names .entry)) i ⌝ }
+    ensures { λ r. ⌜ r ≡ nodeFits depthLimit (now (nodes .entry)) (now (names .entry)) i ⌝ }
 {
     if parent_fits(nodes, i) {
         if count_fits(nodes, i) {
@@ -91,7 +92,7 @@ fn node_fits(nodes: &[u8], names: &[u8], i: usize) -> bool
 fn child_count(nodes: &[u8], p: usize) -> u64
     ensures { λ r. ⌜ r ≡ childCount (now (nodes .entry)) p (nodesIn (now (nodes .entry)) - 1) 1 ⌝ }
 {
-    let n = nodes.len() / node::NODE_SIZE;
+    let n = node::nodes_in(nodes);
     let mut count: u64 = 0;
     let mut j: usize = 1;
     while j < n {
@@ -110,7 +111,7 @@ fn child_count(nodes: &[u8], p: usize) -> u64
 fn table_kids_fit(nodes: &[u8], names: &[u8], i: usize) -> bool
     ensures { λ r. ⌜ r ≡ kidsFit (now (nodes .entry)) (now (names .entry)) i ⌝ }
 {
-    let n = nodes.len() / node::NODE_SIZE;
+    let n = node::nodes_in(nodes);
     let said = node::subtrees(nodes, i);
     let count = child_count(nodes, i);
     if said == count {
@@ -134,7 +135,7 @@ pub struct WalkedKids {
 
 // The children of p in a table in walk order, each compared with the one before it.
 fn walked_kids(nodes: &[u8], names: &[u8], p: usize) -> WalkedKids
-    requires { ⌜ (walks 64 (now nodes) ≡ true) × (p < nodesIn (now nodes)) ⌝ }
+    requires { ⌜ (walks depthLimit (now nodes) ≡ true) × (p < nodesIn (now nodes)) ⌝ }
     ensures { λ r. ⌜ Seen (now (nodes .entry)) (now (names .entry)) p r ⌝ }
 {
     let mut so = Rising {
@@ -161,7 +162,7 @@ fn walked_kids(nodes: &[u8], names: &[u8], p: usize) -> WalkedKids
 
 // The same as table_kids_fit, in a table in walk order: only children in no order that is known are compared in pairs, among the nodes up to the last of them.
 fn walked_kids_fit(nodes: &[u8], names: &[u8], i: usize) -> bool
-    requires { ⌜ (walks 64 (now nodes) ≡ true) × (i < nodesIn (now nodes)) ⌝ }
+    requires { ⌜ (walks depthLimit (now nodes) ≡ true) × (i < nodesIn (now nodes)) ⌝ }
     ensures { λ r. ⌜ r ≡ kidsFit (now (nodes .entry)) (now (names .entry)) i ⌝ }
 {
     let said = node::subtrees(nodes, i);
@@ -182,7 +183,7 @@ fn walked_kids_fit(nodes: &[u8], names: &[u8], i: usize) -> bool
 
 // Whether node i has as many children as it says, and their names differ.
 fn kids_fit(nodes: &[u8], names: &[u8], walk: bool, i: usize) -> bool
-    requires { ⌜ (walk ≡ walks 64 (now nodes)) × (i < nodesIn (now nodes)) ⌝ }
+    requires { ⌜ (walk ≡ walks depthLimit (now nodes)) × (i < nodesIn (now nodes)) ⌝ }
     ensures { λ r. ⌜ r ≡ kidsFit (now (nodes .entry)) (now (names .entry)) i ⌝ }
 {
     if walk {
@@ -192,9 +193,9 @@ fn kids_fit(nodes: &[u8], names: &[u8], walk: bool, i: usize) -> bool
 }
 
 fn nodes_fit(nodes: &[u8], names: &[u8]) -> bool
-    ensures { λ r. ⌜ r ≡ nodesFit 64 (now (nodes .entry)) (now (names .entry)) ⌝ }
+    ensures { λ r. ⌜ r ≡ nodesFit depthLimit (now (nodes .entry)) (now (names .entry)) ⌝ }
 {
-    let n = nodes.len() / node::NODE_SIZE;
+    let n = node::nodes_in(nodes);
     let mut i: usize = 0;
     while i < n {
         if node_fits(nodes, names, i) {
@@ -211,7 +212,7 @@ fn all_kids_fit(nodes: &[u8], names: &[u8]) -> bool
     ensures { λ r. ⌜ r ≡ allKidsFit (now (nodes .entry)) (now (names .entry)) ⌝ }
 {
     let walk = walk_order::in_walk_order(nodes);
-    let n = nodes.len() / node::NODE_SIZE;
+    let n = node::nodes_in(nodes);
     let mut i: usize = 0;
     while i < n {
         if kids_fit(nodes, names, walk, i) {
@@ -224,7 +225,7 @@ fn all_kids_fit(nodes: &[u8], names: &[u8]) -> bool
 }
 
 pub fn is_proper(nodes: &[u8], names: &[u8]) -> bool
-    ensures { λ r. ⌜ r ≡ isProper 64 (now (nodes .entry)) (now (names .entry)) ⌝ }
+    ensures { λ r. ⌜ r ≡ isProper depthLimit (now (nodes .entry)) (now (names .entry)) ⌝ }
 {
     if nodes.len() < node::NODE_SIZE {
         return false;

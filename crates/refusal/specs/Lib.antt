@@ -1,2 +1,3 @@
 -- The modules of refusal that contracts and proofs cite.
 pub mod Refusal
+pub mod Bit

@@ -1,7 +1,5 @@
 -- The numbers of 01's table "When the desk says no", each named once. Assumes nothing.
 use Prim.Native.Nat.{ℕ}
-use Rattle.refusal.specs.declared.Refusal.{Refusal}
-use Rattle.refusal.specs.declared.Refusal.the-variants.{ShortFile, NoSignature, OtherVersion, BadTrailer, NotSpelled, NoEntryRoom, NotFilled, Mandatory, TooDeep, NoNodeRoom, NoStage, PathOutside, NotAfter, ShortOutput, TooLarge, NotProper}
 
 abbrev pub short-file : ℕ
 short-file = 1
@@ -50,21 +48,3 @@ too-large = 15
 
 abbrev pub not-proper : ℕ
 not-proper = 16
-
-abbrev pub numberOf : Refusal → ℕ
-numberOf ShortFile = short-file
-numberOf NoSignature = no-signature
-numberOf OtherVersion = other-version
-numberOf BadTrailer = bad-trailer
-numberOf NotSpelled = not-spelled
-numberOf NoEntryRoom = no-entry-room
-numberOf NotFilled = not-filled
-numberOf Mandatory = mandatory
-numberOf TooDeep = too-deep
-numberOf NoNodeRoom = no-node-room
-numberOf NoStage = no-stage
-numberOf PathOutside = path-outside
-numberOf NotAfter = not-after
-numberOf ShortOutput = short-output
-numberOf TooLarge = too-large
-numberOf NotProper = not-proper

@@ -1,4 +1,4 @@
-// Reads small files that were put together by hand (tests/make-refusals says how, byte by byte) and shows of each the answer, the listing, the first nodes of its tree,
+// Reads small files that were put together by hand (tests/make/refusals says how, byte by byte) and shows of each the answer, the listing, the first nodes of its tree,
 // and what became of the three stores: how many bytes were lent, how many of them are not as they were, and how many bytes of the node store are zero. Every byte of a
 // store is LENT before. First come files that are lent a room of their own, then those that its arguments name.
 ghost use Prim.Native.Nat.{_≤_};
@@ -157,7 +157,7 @@ fn show_read(file: &[u8], records: &mut [u8], paths: &mut [u8], nodes: &mut [u8]
 }
 
 // The lesser of two.
-fn least(x: usize, y: usize) -> usize
+fn min(x: usize, y: usize) -> usize
     ensures { λ r. ⌜ r ≤ y ⌝ }
 {
     if x < y { x } else { y }
@@ -168,9 +168,9 @@ fn show_file(file: &[u8], r: usize, p: usize, n: usize) {
     let mut records = [LENT; RECORDS];
     let mut paths = [LENT; PATHS];
     let mut nodes = [LENT; NODES];
-    let rs = least(r, RECORDS);
-    let ps = least(p, PATHS);
-    let ns = least(n, NODES);
+    let rs = min(r, RECORDS);
+    let ps = min(p, PATHS);
+    let ns = min(n, NODES);
     show_read(file, &mut records[..rs], &mut paths[..ps], &mut nodes[..ns]);
 }
 

@@ -1,5 +1,5 @@
 // The digests of 201 messages, of 0 to 200 bytes: byte i of each is (7 i + 3) modulo 256. The digests of `stdout` were made with `sha1sum`, by
-// tests/sha1_lengths.
+// tests/make/sha1_lengths.
 use libc::STDOUT_FILENO;
 
 const LONGEST: usize = 200;

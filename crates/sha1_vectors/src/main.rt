@@ -12,7 +12,7 @@ fn write(id: [u8; 20]) {
 }
 
 // The lesser of two.
-fn least(x: usize, y: usize) -> usize
+fn min(x: usize, y: usize) -> usize
     requires { ⌜ (0 < x) × (0 < y) ⌝ }
     ensures { λ r. ⌜ (0 < r) × ((r ≤ x) × (r ≤ y)) ⌝ }
 {
@@ -28,7 +28,7 @@ fn uneven(n: usize) -> [u8; 20]
     let mut left = n;
     let mut size: usize = 1;
     while 0 < left {
-        let part = least(left, size);
+        let part = min(left, size);
         let next = d.feed(&a[..part]);
         d = next;
         left -= part;

@@ -1,4 +1,4 @@
--- A turn of the loop of `hex_line`: the digits of the bytes so far stand at the start, and the rest of the line is as it was. Assumes nothing.
+-- The digits of a byte, and a turn of the loop of `hex_line`: the digits of the bytes so far stand at the start, and the rest of the line is as it was. Assumes nothing.
 use mathlib.Core.Path.{_≡_, refl, sym, ap, _∙_}
 use mathlib.Core.List.{List, [], _∷_, _++_, append-assoc}
 use Prim.Native.Nat.{ℕ, suc, _+_, _*_, _/_, _≤_, _<_}
@@ -6,17 +6,16 @@ use native.Mathlib.Numerals.{add-one}
 use native.Mathlib.Omega.{arith}
 use lib.ListN.{length, getD, take, drop, set, replicate, length-append}
 use lib.Seq.{take-suc, length-take-le, drop-cons, set-at, take-all}
-use Rattle.show.specs.Hex.{digit, hex}
+use Rattle.show.specs.Hex.{digit, hex, length-hex}
 
 hex-append : (s t : List ℕ) → hex (s ++ t) ≡ hex s ++ hex t
 unfolding hex
 hex-append [] t = refl
 hex-append (x ∷ s) t = ap (λ (l : List ℕ). digit (x / 16) ∷ digit x ∷ l) (hex-append s t)
 
-length-hex : (s : List ℕ) → length (hex s) ≡ length s * 2
+pub byte-digits : (x a b : ℕ) → a ≡ digit (x / 16) → b ≡ digit x → a ∷ b ∷ [] ≡ hex (x ∷ [])
 unfolding hex
-length-hex [] = refl
-length-hex (x ∷ s) = let h : length (hex s) ≡ length s * 2 = length-hex s in omega arith
+byte-digits x a b ea eb = rw (ea, eb)
 
 -- two stores at the seam
 set-two : (p q : List ℕ) (n x y a b : ℕ) → length p ≡ n → set (set (p ++ x ∷ y ∷ q) n a) (n + 1) b ≡ p ++ a ∷ b ∷ q

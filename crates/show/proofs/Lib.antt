@@ -1,2 +1,2 @@
--- What the proof of `hex_line` cites. Assumes nothing.
+-- What the proofs of show cite. Assumes nothing.
 mod Laws

@@ -15,6 +15,13 @@ fn digit(x: u8) -> u8
     }
 }
 
+// A byte in hexadecimal digits.
+pub fn hex_byte(x: u8) -> [u8; 2]
+    ensures { λ r. ⌜ r ≡ hex (x ∷ []) ⌝ }
+{
+    [digit(x / 16), digit(x)]
+}
+
 // Twenty bytes in hexadecimal digits, and a line's end.
 pub fn hex_line(id: [u8; 20]) -> [u8; 41]
     ensures { λ r. ⌜ r ≡ hex id ++ (10 ∷ []) ⌝ }

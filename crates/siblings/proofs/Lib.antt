@@ -1,1 +1,2 @@
--- The proofs of siblings use the laws of specs/Laws.antt.
+-- What the proofs of siblings cite. Assumes nothing.
+pub mod Laws

@@ -2,4 +2,3 @@
 pub mod Siblings
 pub mod Rising
 pub mod InOrder
-pub mod Laws

@@ -5,4 +5,3 @@ pub mod Writing
 pub mod Searching
 pub mod Extensions
 pub mod Tables
-pub mod Laws

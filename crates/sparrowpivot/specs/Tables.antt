@@ -4,12 +4,13 @@ use mathlib.Core.List.{List, [], _∷_}
 use lib.ListN.{replicate}
 use lib.Dec.{ltb}
 use Rattle.laws.specs.Pick.{pick}
+use Rattle.refusal.specs.Bit.{bit}
 use Rattle.format.specs.Format.{idSize}
 use Rattle.entry.specs.Record.{recordsIn, modeAt, flagsAt, stageAt, startAt, endAt, liesInside}
 use Rattle.entry.specs.Stat.{statAt}
 use Rattle.entry.specs.declared.stat.Stat.{Stat}
 use Rattle.node.specs.Store.{nodesIn, nameStartAt, nameEndAt, countAt, subtreesAt, parentAt, idAt}
-use Rattle.sparrowpivot.specs.Told.{Told, told, bit}
+use Rattle.sparrowpivot.specs.Told.{Told, told}
 
 abbrev pub tellRecord : List ℕ → List ℕ → ℕ → Told
 tellRecord rs ps i =

@@ -2,7 +2,7 @@
 // more than one number puts them into eight lent numbers, all of which it writes, 0 where unused, and returns 01's refusal number, 0 where nothing is refused.
 ghost use mathlib.Core.Path.{_≡_};
 ghost use Rattle.sha1.specs.Sha1.{sha1};
-ghost use Rattle.sparrowpivot.specs.Told.{bit};
+ghost use Rattle.refusal.specs.Bit.{bit};
 
 pub mod extensions;
 pub mod reading;

@@ -6,9 +6,10 @@ ghost use lib.ListN.{length};
 ghost use Rattle.wire.specs.Places.{fileAt};
 ghost use Rattle.format.specs.Format.{depthLimit, headerSize, idSize};
 ghost use Rattle.decode.specs.Entries.{readEntries};
+ghost use Rattle.file.specs.Answer.{carriedOf};
 ghost use Rattle.file.specs.Read.{readFile};
-ghost use Rattle.sparrowpivot.specs.Told.{told};
-ghost use Rattle.sparrowpivot.specs.Reading.{begin, readValues, tellRead, tellEntries};
+ghost use Rattle.sparrowpivot.specs.Told.{told, eight};
+ghost use Rattle.sparrowpivot.specs.Reading.{begin, tellRead, tellEntries};
 use decode::entries::Answer as Ran;
 use decode::entries::Before;
 use file::Answer;
@@ -17,7 +18,7 @@ use wire::PathAt;
 
 // What was read, or what a refusal carries.
 fn read_values(a: Answer) -> [u64; 8]
-    ensures { λ r. ⌜ r ≡ readValues a ⌝ }
+    ensures { λ r. ⌜ r ≡ eight (carriedOf a) ⌝ }
 {
     let first = file::carried(a);
     match a {
@@ -64,16 +65,6 @@ pub extern "C" fn sparrowpivot_read(
     file::number(a)
 }
 
-// Where the last 20 bytes of n begin; 0 where there are fewer.
-fn before_trailer(n: usize) -> usize
-    ensures { λ r. ⌜ r ≡ n - idSize ⌝ }
-{
-    if n < format::ID_SIZE {
-        return 0;
-    }
-    n - format::ID_SIZE
-}
-
 // Reads count entries of an index between its header and its trailer. 0: read, with the place behind the entries, the path bytes used and 1 if the index is sparse
 // as the first three values; else 01's number, and the entry's index as the first value. The other values are 0.
 #[no_mangle]
@@ -87,7 +78,7 @@ pub extern "C" fn sparrowpivot_entries(
 ) -> u32
     ensures { λ r. ⌜ told r (now (values .exit)) (now (records .exit) ∷ now (paths .exit) ∷ []) ≡ tellEntries (readEntries idSize (now (file .entry)) (fileAt (length (now (file .entry)) - idSize)) version count 0 (fileAt headerSize) begin (now (records .entry)) (now (paths .entry))) ⌝ }
 {
-    let end = before_trailer(file.len());
+    let end = sums::saturating_sub(file.len(), format::ID_SIZE);
     let before = Before {
         used: PathAt(0),
         first: true,

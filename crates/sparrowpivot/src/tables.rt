@@ -63,7 +63,7 @@ pub extern "C" fn sparrowpivot_record_stat(records: &[u8], i: usize, values: &mu
 
 // The id of record i.
 #[no_mangle]
-pub extern "C" fn sparrowpivot_record_id(records: &[u8], i: usize, out: &mut [u8; 20])
+pub extern "C" fn sparrowpivot_record_id(records: &[u8], i: usize, out: &mut [u8; format::ID_SIZE])
     ensures { λ _. ⌜ now (out .exit) ≡ idAt idSize (now (records .entry)) i ⌝ }
 {
     *out = entry::id_at(records, i);
@@ -111,7 +111,7 @@ fn id_of_node(nodes: &[u8], i: usize) -> [u8; format::ID_SIZE]
 }
 
 #[no_mangle]
-pub extern "C" fn sparrowpivot_node_id(nodes: &[u8], i: usize, out: &mut [u8; 20])
+pub extern "C" fn sparrowpivot_node_id(nodes: &[u8], i: usize, out: &mut [u8; format::ID_SIZE])
     ensures { λ _. ⌜ now (out .exit) ≡ nodeId (now (nodes .entry)) i ⌝ }
 {
     *out = id_of_node(nodes, i);

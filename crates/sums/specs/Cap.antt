@@ -51,8 +51,8 @@ cap-cap-right a b =
 
 -- ---- turns of the code
 
-pub plus-over : (a b : ℕ) → a ≤ largest → largest - a < b → largest ≡ cap (a + b)
-plus-over a b k h = sym (cap-over (a + b) (omega arith))
+pub add-over : (a b : ℕ) → a ≤ largest → largest - a < b → largest ≡ cap (a + b)
+add-over a b k h = sym (cap-over (a + b) (omega arith))
 
-pub plus-fits : (a b : ℕ) → a ≤ largest → b ≤ largest - a → a + b ≡ cap (a + b)
-plus-fits a b k h = sym (cap-fits (a + b) (omega arith))
+pub add-fits : (a b : ℕ) → a ≤ largest → b ≤ largest - a → a + b ≡ cap (a + b)
+add-fits a b k h = sym (cap-fits (a + b) (omega arith))

@@ -1,1 +1,2 @@
--- The proofs of tree use the laws of specs/Laws.antt.
+-- What the proofs of tree cite. Assumes nothing.
+pub mod Laws

@@ -6,4 +6,3 @@ pub mod Distinct
 pub mod Tally
 pub mod Stored
 pub mod Marked
-pub mod Laws

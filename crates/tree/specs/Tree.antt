@@ -77,8 +77,8 @@ unfoldable pub readTree : ℕ → ℕ → List ℕ → ℕ → ℕ → List ℕ 
 readTree idLength limit s start end ns = wiped (rootAt idLength limit s start end ns)
 
 -- 01's numbers: 9 and 10; a malformed tree is no tree, and refuses nothing
-abbrev pub refusalOf : TreeAnswer → ℕ
-refusalOf (Tree u) = 0
-refusalOf Malformed = 0
-refusalOf TooDeep = too-deep
-refusalOf NoRoom = no-node-room
+abbrev pub numberOf : TreeAnswer → ℕ
+numberOf (Tree u) = 0
+numberOf Malformed = 0
+numberOf TooDeep = too-deep
+numberOf NoRoom = no-node-room

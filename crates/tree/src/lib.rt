@@ -1,10 +1,11 @@
 // The TREE extension: a node and its subtrees, in file order, into a lent node store. Where the tree is malformed, too deep or too large for the store, every byte
 // lent is zeroed.
 ghost use mathlib.Core.Path.{_≡_};
-ghost use Rattle.tree.specs.Tree.{nodeAt, settledAs, rootAt, readTree, answerOf, refusalOf};
+ghost use Rattle.tree.specs.Tree.{nodeAt, settledAs, rootAt, readTree, answerOf, numberOf};
 ghost use Rattle.siblings.specs.InOrder.{SoFar};
 use node::Head;
 use siblings::Rising;
+ghost use Rattle.format.specs.Format.{depthLimit, idSize};
 
 // Why a walk stops.
 pub enum Fault {
@@ -59,7 +60,7 @@ fn one_recursive(
     parent: u64,
     depth: usize,
 ) -> Step
-    ensures { λ r. ⌜ (r, now (nodes .exit)) ≡ nodeAt 20 (now (file .entry)) end depth parent at used (now (nodes .entry)) ⌝ }
+    ensures { λ r. ⌜ (r, now (nodes .exit)) ≡ nodeAt idSize (now (file .entry)) end depth parent at used (now (nodes .entry)) ⌝ }
 {
     if depth == 0 {
         return Step::Stops(Fault::Deep);
@@ -101,7 +102,7 @@ fn one_recursive(
 
 // Reads the root, behind which nothing follows.
 fn root(file: &[u8], start: usize, end: usize, nodes: &mut [u8]) -> Step
-    ensures { λ r. ⌜ (r, now (nodes .exit)) ≡ rootAt 20 64 (now (file .entry)) start end (now (nodes .entry)) ⌝ }
+    ensures { λ r. ⌜ (r, now (nodes .exit)) ≡ rootAt idSize depthLimit (now (file .entry)) start end (now (nodes .entry)) ⌝ }
 {
     if end < start {
         return Step::Stops(Fault::Unspelled);
@@ -141,7 +142,7 @@ fn answer(f: Fault) -> TreeAnswer
 
 // Reads the body of a TREE extension, the bytes of the file from `start` to `end`, into the node store.
 pub fn read_tree(file: &[u8], start: usize, end: usize, nodes: &mut [u8]) -> TreeAnswer
-    ensures { λ r. ⌜ (r, now (nodes .exit)) ≡ readTree 20 64 (now (file .entry)) start end (now (nodes .entry)) ⌝ }
+    ensures { λ r. ⌜ (r, now (nodes .exit)) ≡ readTree idSize depthLimit (now (file .entry)) start end (now (nodes .entry)) ⌝ }
 {
     let a = root(file, start, end, nodes);
     match a {
@@ -156,7 +157,7 @@ pub fn read_tree(file: &[u8], start: usize, end: usize, nodes: &mut [u8]) -> Tre
 
 // The number that 01's table gives an answer; 0 for a tree, and for a malformed one, which refuses nothing.
 pub fn number(a: TreeAnswer) -> u32
-    ensures { λ r. ⌜ r ≡ refusalOf a ⌝ }
+    ensures { λ r. ⌜ r ≡ numberOf a ⌝ }
 {
     match a {
         TreeAnswer::Tree(_) => 0,

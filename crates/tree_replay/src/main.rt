@@ -1,5 +1,5 @@
 // Replays what the Rust answers for TREE. `stdin` has the bodies, each behind its length in two bytes, and `stdout` a line for each: `none`, `9`, `10`, or the nodes, each
-// as parent, name, count, subtree count and id. tests/tree_cases made both files with the oracle; it names the two differences: 9 past depth 64 (D8), and children in
+// as parent, name, count, subtree count and id. tests/make/tree_replay made both files with the oracle; it names the two differences: 9 past depth 64 (D8), and children in
 // file order (D9).
 ghost use mathlib.Core.Path.{_≡_};
 ghost use lib.ListN.{length};
@@ -21,15 +21,11 @@ fn nodes_room() -> [u8; 7207]
     [0; 7207]
 }
 
-fn wide(x: u8) -> u64 {
-    x as u64
-}
-
 // Bytes in hexadecimal digits.
 fn show_hex(s: &[u8]) {
     let mut i: usize = 0;
     while i < s.len() {
-        io::print_hex(STDOUT_FILENO, wide(s[i]), 2);
+        io::write_all(STDOUT_FILENO, &show::hex_byte(s[i]));
         i += 1;
     }
 }

@@ -12,8 +12,9 @@ use Rattle.laws.specs.Put.{put-then, put, put-none, put-put, length-put, paste-
 use Rattle.laws.specs.Order.{Comparison, below, equal, beyond, compared, Compares, is-below, is-equal, is-beyond, compares, before-below, compared-same}
 use Rattle.sums.specs.Cap.{largest, cap, cap-fits, cap-small, cap-le, cap-below, cap-cap}
 use Rattle.wire.specs.Written.{digitsOf}
+use Rattle.format.specs.Format.{depthLimit, idSize}
 use Rattle.node.specs.Head.{minusOne}
-use Rattle.node.specs.Store.{countAt, subtreesAt, parentAt, idAt, nameAt}
+use Rattle.node.specs.Store.{nodesIn, countAt, subtreesAt, parentAt, idAt, nameAt}
 use Rattle.siblings.specs.Rising.{isBelow}
 use Rattle.siblings.specs.Rising as rising
 use Rattle.tree_write.specs.Order.{byIndex, before, false-true}
@@ -84,33 +85,33 @@ module _ (count : ℕ) where
 -- ---- an id
 
 module _ (ns : List ℕ) (i count : ℕ) (ec : count ≡ countAt ns i) where
-  id-out : count ≡ minusOne → idBytes 20 ns i ≡ []
+  id-out : count ≡ minusOne → idBytes idSize ns i ≡ []
   unfolding idBytes
   id-out h = rw (eq-eqb (countAt ns i) minusOne (sym ec ∙ h))
 
-  id-in : (count ≡ minusOne → ⊥) → idBytes 20 ns i ≡ idAt 20 ns i
+  id-in : (count ≡ minusOne → ⊥) → idBytes idSize ns i ≡ idAt idSize ns i
   unfolding idBytes
   id-in h = rw (ne-eqb (countAt ns i) minusOne (λ q. h (ec ∙ q)))
 
-  pub id-none : count ≡ minusOne → 0 ≡ length (idBytes 20 ns i)
+  pub id-none : count ≡ minusOne → 0 ≡ length (idBytes idSize ns i)
   id-none h = sym (ap length (id-out h))
 
-  pub id-long : (count ≡ minusOne → ⊥) → (x : List ℕ) → x ≡ idAt 20 ns i → length x ≡ length (idBytes 20 ns i)
+  pub id-long : (count ≡ minusOne → ⊥) → (x : List ℕ) → x ≡ idAt idSize ns i → length x ≡ length (idBytes idSize ns i)
   id-long h x e = ap length (e ∙ sym (id-in h))
 
-  pub id-same : count ≡ minusOne → (d : List ℕ) (k : ℕ) → d ≡ put d k (idBytes 20 ns i)
+  pub id-same : count ≡ minusOne → (d : List ℕ) (k : ℕ) → d ≡ put d k (idBytes idSize ns i)
   id-same h d k = sym (ap (λ (l : List ℕ). put d k l) (id-out h) ∙ put-none d k)
 
-  pub id-stays : count ≡ minusOne → (k : ℕ) → k ≡ k + length (idBytes 20 ns i)
+  pub id-stays : count ≡ minusOne → (k : ℕ) → k ≡ k + length (idBytes idSize ns i)
   id-stays h k = omega (arith, id-none h)
 
-  pub id-room : (count ≡ minusOne → ⊥) → (x : List ℕ) → x ≡ idAt 20 ns i → (k m : ℕ) → k + length (idBytes 20 ns i) ≤ m → k + length x ≤ m
+  pub id-room : (count ≡ minusOne → ⊥) → (x : List ℕ) → x ≡ idAt idSize ns i → (k m : ℕ) → k + length (idBytes idSize ns i) ≤ m → k + length x ≤ m
   id-room h x e k m r = omega (arith, id-long h x e)
 
-  pub id-next : (count ≡ minusOne → ⊥) → (x : List ℕ) → x ≡ idAt 20 ns i → (k r : ℕ) → r ≡ k + length x → r ≡ k + length (idBytes 20 ns i)
+  pub id-next : (count ≡ minusOne → ⊥) → (x : List ℕ) → x ≡ idAt idSize ns i → (k r : ℕ) → r ≡ k + length x → r ≡ k + length (idBytes idSize ns i)
   id-next h x e k r q = omega (arith, id-long h x e)
 
-  pub id-put : (count ≡ minusOne → ⊥) → (x : List ℕ) → x ≡ idAt 20 ns i → (d d₁ : List ℕ) (k : ℕ) → d₁ ≡ put d k x → d₁ ≡ put d k (idBytes 20 ns i)
+  pub id-put : (count ≡ minusOne → ⊥) → (x : List ℕ) → x ≡ idAt idSize ns i → (d d₁ : List ℕ) (k : ℕ) → d₁ ≡ put d k x → d₁ ≡ put d k (idBytes idSize ns i)
   id-put h x e d d₁ k q = q ∙ ap (λ (l : List ℕ). put d k l) (e ∙ sym (id-in h))
 
 -- ---- a head's parts
@@ -193,16 +194,16 @@ module _ (ns nm : List ℕ) (i : ℕ) where
   g = numberBytes ns i
 
   abbrev h : List ℕ
-  h = idBytes 20 ns i
+  h = idBytes idSize ns i
 
-  head-is : headBytes 20 ns nm i ≡ (f ++ g) ++ h
+  head-is : headBytes idSize ns nm i ≡ (f ++ g) ++ h
   unfolding headBytes
   head-is = refl
 
-  head-long : length (headBytes 20 ns nm i) ≡ length f + length g + length h
+  head-long : length (headBytes idSize ns nm i) ≡ length f + length g + length h
   head-long = ap length head-is ∙ omega (arith, length-append (f ++ g) h, length-append f g)
 
-  module _ (d : List ℕ) (k : ℕ) (room : k + length (headBytes 20 ns nm i) ≤ length d) where
+  module _ (d : List ℕ) (k : ℕ) (room : k + length (headBytes idSize ns nm i) ≤ length d) where
     pub head-first : k + length (frontBytes ns nm i) ≤ length d
     head-first = omega (arith, head-long)
 
@@ -217,27 +218,27 @@ module _ (ns nm : List ℕ) (i : ℕ) where
         head₂ : length d₂ ≡ length d
         head₂ = ap length e₂ ∙ length-put d₁ g k₁ head-second ∙ head₁
 
-        pub head-third : k₂ + length (idBytes 20 ns i) ≤ length d₂
+        pub head-third : k₂ + length (idBytes idSize ns i) ≤ length d₂
         head-third = omega (arith, head₂, head-long)
 
-        pub head-next : (k₃ : ℕ) → k₃ ≡ k₂ + length (idBytes 20 ns i) → k₃ ≡ k + length (headBytes 20 ns nm i)
+        pub head-next : (k₃ : ℕ) → k₃ ≡ k₂ + length (idBytes idSize ns i) → k₃ ≡ k + length (headBytes idSize ns nm i)
         head-next k₃ p₃ = omega (arith, head-long)
 
-        pub head-put : (d₃ : List ℕ) → d₃ ≡ put d₂ k₂ (idBytes 20 ns i) → d₃ ≡ put d k (headBytes 20 ns nm i)
+        pub head-put : (d₃ : List ℕ) → d₃ ≡ put d₂ k₂ (idBytes idSize ns i) → d₃ ≡ put d k (headBytes idSize ns nm i)
         head-put d₃ e₃ =
             let q₂ : d₂ ≡ put d k (f ++ g) = both-put d d₁ d₂ f g k k₁ e₁ p₁ e₂ (omega (arith, head-long, length-append f g)) in
             let n₂ : k₂ ≡ k + length (f ++ g) = omega (arith, length-append f g) in
             both-put d d₂ d₃ (f ++ g) h k k₂ q₂ n₂ e₃ (omega (arith, ap length head-is)) ∙ ap (λ (l : List ℕ). put d k l) (sym head-is)
 
   pub head-size : (name : List ℕ) (count subtrees digits more id named counted numbered r : ℕ) → name ≡ nameAt nm ns i → count ≡ countAt ns i → subtrees ≡ subtreesAt ns i → digits ≡ length (countBytes count) → more ≡ length (digitsOf 10 subtrees)
-      → id ≡ length (idBytes 20 ns i) → named ≡ cap (length name + 3) → counted ≡ cap (named + digits) → numbered ≡ cap (counted + more) → r ≡ cap (numbered + id) → r ≡ cap (length (headBytes 20 ns nm i))
+      → id ≡ length (idBytes idSize ns i) → named ≡ cap (length name + 3) → counted ≡ cap (named + digits) → numbered ≡ cap (counted + more) → r ≡ cap (numbered + id) → r ≡ cap (length (headBytes idSize ns nm i))
   unfolding frontBytes numberBytes
   head-size name count subtrees digits more id named counted numbered r en ec es ed em ei e₁ e₂ e₃ e₄ =
       let fl : length (frontBytes ns nm i) ≡ length name + 1 + digits
       = omega (arith, ap length en, ap (λ (x : ℕ). length (countBytes x)) ec, length-append (nameAt nm ns i ++ (0 ∷ [])) (countBytes (countAt ns i)), length-append (nameAt nm ns i) (0 ∷ [])) in
       let gl : length (numberBytes ns i) ≡ 1 + more + 1
       = omega (arith, ap (λ (x : ℕ). length (digitsOf 10 x)) es, length-append ((32 ∷ []) ++ digitsOf 10 (subtreesAt ns i)) (10 ∷ []), length-append (32 ∷ []) (digitsOf 10 (subtreesAt ns i))) in
-      let z : length name + 3 + digits + more + id ≡ length (headBytes 20 ns nm i) = omega (arith, head-long) in
+      let z : length name + 3 + digits + more + id ≡ length (headBytes idSize ns nm i) = omega (arith, head-long) in
       e₄ ∙ ap (λ (x : ℕ). cap (x + id)) (e₃ ∙ ap (λ (x : ℕ). cap (x + more)) (e₂ ∙ ap (λ (x : ℕ). cap (x + digits)) e₁ ∙ cap-cap (length name + 3) digits) ∙ cap-cap (length name + 3 + digits) more)
       ∙ cap-cap (length name + 3 + digits + more) id ∙ ap cap z
 
@@ -323,9 +324,9 @@ module _ (ns nm : List ℕ) (p last best j q : ℕ) (up : q ≡ parentAt ns j) w
       better-old x y = rw (← up, eq-eqb q p h, ← ea, x, ← eb, y)
 
 -- ---- the pass
-pub run-start : (ns nm : List ℕ) (p last : ℕ) → bestRun ns nm p last (length ns / 72 - 1) 1 0 ≡ nextKid ns nm p last
+pub run-start : (ns nm : List ℕ) (p last n : ℕ) → n ≡ nodesIn ns → bestRun ns nm p last (n - 1) 1 0 ≡ nextKid ns nm p last
 unfolding nextKid
-run-start ns nm p last = refl
+run-start ns nm p last n e = rw e
 
 module _ (ns nm : List ℕ) (p last n j best r : ℕ) (inv : bestRun ns nm p last (n - j) j best ≡ r) where
   pub run-end : n ≤ j → best ≡ r
@@ -358,91 +359,91 @@ kids-none ns nm p left last h = let q : left ≡ 0 = omega arith in rw q
 
 -- ---- a node
 module _ (ns nm : List ℕ) (depth me : ℕ) where
-  pub node-zero-at : (at : ℕ) → depth ≡ 0 → at ≡ at + length (nodeBytes 20 ns nm depth me)
+  pub node-zero-at : (at : ℕ) → depth ≡ 0 → at ≡ at + length (nodeBytes idSize ns nm depth me)
   unfolding nodeBytes
   node-zero-at at h = rw h (omega arith)
 
-  pub node-zero-put : (d : List ℕ) (at : ℕ) → depth ≡ 0 → d ≡ put d at (nodeBytes 20 ns nm depth me)
+  pub node-zero-put : (d : List ℕ) (at : ℕ) → depth ≡ 0 → d ≡ put d at (nodeBytes idSize ns nm depth me)
   unfolding nodeBytes
   node-zero-put d at h = rw h (sym (put-none d at))
 
   module _ (deep : depth ≡ 0 → ⊥) where
-    node-cut : nodeBytes 20 ns nm depth me ≡ headBytes 20 ns nm me ++ each (nodeBytes 20 ns nm (depth - 1)) (kids ns nm me (length ns / 72) 0)
+    node-cut : nodeBytes idSize ns nm depth me ≡ headBytes idSize ns nm me ++ each (nodeBytes idSize ns nm (depth - 1)) (kids ns nm me (length ns / 72) 0)
     unfolding nodeBytes
-    node-cut = ap (λ (k : ℕ). nodeBytes 20 ns nm k me) q
+    node-cut = ap (λ (k : ℕ). nodeBytes idSize ns nm k me) q
       where
         q : depth ≡ suc (depth - 1)
         q = let z : 0 < depth = pos-of-ne-zero deep in omega arith
 
-    node-long : length (nodeBytes 20 ns nm depth me) ≡ length (headBytes 20 ns nm me) + length (each (nodeBytes 20 ns nm (depth - 1)) (kids ns nm me (length ns / 72) 0))
-    node-long = ap length node-cut ∙ length-append (headBytes 20 ns nm me) (each (nodeBytes 20 ns nm (depth - 1)) (kids ns nm me (length ns / 72) 0))
+    node-long : length (nodeBytes idSize ns nm depth me) ≡ length (headBytes idSize ns nm me) + length (each (nodeBytes idSize ns nm (depth - 1)) (kids ns nm me (length ns / 72) 0))
+    node-long = ap length node-cut ∙ length-append (headBytes idSize ns nm me) (each (nodeBytes idSize ns nm (depth - 1)) (kids ns nm me (length ns / 72) 0))
 
-    pub node-head : (at m : ℕ) → at + length (nodeBytes 20 ns nm depth me) ≤ m → at + length (headBytes 20 ns nm me) ≤ m
+    pub node-head : (at m : ℕ) → at + length (nodeBytes idSize ns nm depth me) ≤ m → at + length (headBytes idSize ns nm me) ≤ m
     node-head at m h = omega (arith, node-long)
 
-    pub node-rest : (at m m′ pos : ℕ) → at + length (nodeBytes 20 ns nm depth me) ≤ m → m′ ≡ m → pos ≡ at + length (headBytes 20 ns nm me) → pos + length (each (nodeBytes 20 ns nm (depth - 1)) (kids ns nm me (length ns / 72) 0)) ≤ m′
+    pub node-rest : (at m m′ pos : ℕ) → at + length (nodeBytes idSize ns nm depth me) ≤ m → m′ ≡ m → pos ≡ at + length (headBytes idSize ns nm me) → pos + length (each (nodeBytes idSize ns nm (depth - 1)) (kids ns nm me (length ns / 72) 0)) ≤ m′
     node-rest at m m′ pos h q e = omega (arith, node-long)
 
-    module _ (at left last pos pos₀ : ℕ) (none : kids ns nm me left last ≡ []) (e₀ : pos₀ ≡ at + length (headBytes 20 ns nm me)) where
-      pub node-at : pos + length (each (nodeBytes 20 ns nm (depth - 1)) (kids ns nm me left last)) ≡ pos₀ + length (each (nodeBytes 20 ns nm (depth - 1)) (kids ns nm me (length ns / 72) 0)) → pos ≡ at + length (nodeBytes 20 ns nm depth me)
+    module _ (at left last pos pos₀ : ℕ) (none : kids ns nm me left last ≡ []) (e₀ : pos₀ ≡ at + length (headBytes idSize ns nm me)) where
+      pub node-at : pos + length (each (nodeBytes idSize ns nm (depth - 1)) (kids ns nm me left last)) ≡ pos₀ + length (each (nodeBytes idSize ns nm (depth - 1)) (kids ns nm me (length ns / 72) 0)) → pos ≡ at + length (nodeBytes idSize ns nm depth me)
       unfolding each
-      node-at h = let z : pos + 0 ≡ pos₀ + length (each (nodeBytes 20 ns nm (depth - 1)) (kids ns nm me (length ns / 72) 0)) = rw none at h in omega (arith, node-long)
+      node-at h = let z : pos + 0 ≡ pos₀ + length (each (nodeBytes idSize ns nm (depth - 1)) (kids ns nm me (length ns / 72) 0)) = rw none at h in omega (arith, node-long)
 
-      pub node-put : (d d₀ d₁ : List ℕ) → at ≤ length d → d₀ ≡ put d at (headBytes 20 ns nm me)
-          → put d₁ pos (each (nodeBytes 20 ns nm (depth - 1)) (kids ns nm me left last)) ≡ put d₀ pos₀ (each (nodeBytes 20 ns nm (depth - 1)) (kids ns nm me (length ns / 72) 0)) → d₁ ≡ put d at (nodeBytes 20 ns nm depth me)
+      pub node-put : (d d₀ d₁ : List ℕ) → at ≤ length d → d₀ ≡ put d at (headBytes idSize ns nm me)
+          → put d₁ pos (each (nodeBytes idSize ns nm (depth - 1)) (kids ns nm me left last)) ≡ put d₀ pos₀ (each (nodeBytes idSize ns nm (depth - 1)) (kids ns nm me (length ns / 72) 0)) → d₁ ≡ put d at (nodeBytes idSize ns nm depth me)
       unfolding each
       node-put d d₀ d₁ room e h =
           sym (put-none d₁ pos)
           ∙ (rw none at h)
-          ∙ (rw (e, e₀, node-cut) (put-put d (headBytes 20 ns nm me) (each (nodeBytes 20 ns nm (depth - 1)) (kids ns nm me (length ns / 72) 0)) at room))
+          ∙ (rw (e, e₀, node-cut) (put-put d (headBytes idSize ns nm me) (each (nodeBytes idSize ns nm (depth - 1)) (kids ns nm me (length ns / 72) 0)) at room))
 
 -- ---- the loop over the children, each written at most b levels deep
 module _ (b : ℕ) (ns nm : List ℕ) (p left last kid pos : ℕ) (is : kids ns nm p left last ≡ kid ∷ kids ns nm p (left - 1) kid) where
-  each-cut : each (nodeBytes 20 ns nm b) (kids ns nm p left last) ≡ nodeBytes 20 ns nm b kid ++ each (nodeBytes 20 ns nm b) (kids ns nm p (left - 1) kid)
+  each-cut : each (nodeBytes idSize ns nm b) (kids ns nm p left last) ≡ nodeBytes idSize ns nm b kid ++ each (nodeBytes idSize ns nm b) (kids ns nm p (left - 1) kid)
   unfolding each
   each-cut = rw is
 
-  each-long : length (each (nodeBytes 20 ns nm b) (kids ns nm p left last)) ≡ length (nodeBytes 20 ns nm b kid) + length (each (nodeBytes 20 ns nm b) (kids ns nm p (left - 1) kid))
-  each-long = ap length each-cut ∙ length-append (nodeBytes 20 ns nm b kid) (each (nodeBytes 20 ns nm b) (kids ns nm p (left - 1) kid))
+  each-long : length (each (nodeBytes idSize ns nm b) (kids ns nm p left last)) ≡ length (nodeBytes idSize ns nm b kid) + length (each (nodeBytes idSize ns nm b) (kids ns nm p (left - 1) kid))
+  each-long = ap length each-cut ∙ length-append (nodeBytes idSize ns nm b kid) (each (nodeBytes idSize ns nm b) (kids ns nm p (left - 1) kid))
 
-  pub each-room : (m : ℕ) → pos + length (each (nodeBytes 20 ns nm b) (kids ns nm p left last)) ≤ m → pos + length (nodeBytes 20 ns nm b kid) ≤ m
+  pub each-room : (m : ℕ) → pos + length (each (nodeBytes idSize ns nm b) (kids ns nm p left last)) ≤ m → pos + length (nodeBytes idSize ns nm b kid) ≤ m
   each-room m h = omega (arith, each-long)
 
-  pub each-next : (pos′ : ℕ) → pos′ ≡ pos + length (nodeBytes 20 ns nm b kid) → pos′ + length (each (nodeBytes 20 ns nm b) (kids ns nm p (left - 1) kid)) ≡ pos + length (each (nodeBytes 20 ns nm b) (kids ns nm p left last))
+  pub each-next : (pos′ : ℕ) → pos′ ≡ pos + length (nodeBytes idSize ns nm b kid) → pos′ + length (each (nodeBytes idSize ns nm b) (kids ns nm p (left - 1) kid)) ≡ pos + length (each (nodeBytes idSize ns nm b) (kids ns nm p left last))
   each-next pos′ e = omega (arith, each-long)
 
-  pub each-put : (d d′ r : List ℕ) (pos′ : ℕ) → pos ≤ length d → put d pos (each (nodeBytes 20 ns nm b) (kids ns nm p left last)) ≡ r → d′ ≡ put d pos (nodeBytes 20 ns nm b kid) → pos′ ≡ pos + length (nodeBytes 20 ns nm b kid) → put d′ pos′ (each (nodeBytes 20 ns nm b) (kids ns nm p (left - 1) kid)) ≡ r
-  each-put d d′ r pos′ room inv e q = rw (e, q) (put-put d (nodeBytes 20 ns nm b kid) (each (nodeBytes 20 ns nm b) (kids ns nm p (left - 1) kid)) pos room ∙ (rw each-cut at inv))
+  pub each-put : (d d′ r : List ℕ) (pos′ : ℕ) → pos ≤ length d → put d pos (each (nodeBytes idSize ns nm b) (kids ns nm p left last)) ≡ r → d′ ≡ put d pos (nodeBytes idSize ns nm b kid) → pos′ ≡ pos + length (nodeBytes idSize ns nm b kid) → put d′ pos′ (each (nodeBytes idSize ns nm b) (kids ns nm p (left - 1) kid)) ≡ r
+  each-put d d′ r pos′ room inv e q = rw (e, q) (put-put d (nodeBytes idSize ns nm b kid) (each (nodeBytes idSize ns nm b) (kids ns nm p (left - 1) kid)) pos room ∙ (rw each-cut at inv))
 
 pub sum-small : (a r : ℕ) → r ≡ cap a → r ≤ largest
 sum-small a r e = omega (arith, cap-small a)
 
-pub node-size-none : (ns nm : List ℕ) (depth me : ℕ) → depth ≡ 0 → 0 ≡ cap (length (nodeBytes 20 ns nm depth me))
+pub node-size-none : (ns nm : List ℕ) (depth me : ℕ) → depth ≡ 0 → 0 ≡ cap (length (nodeBytes idSize ns nm depth me))
 unfolding nodeBytes cap
 node-size-none ns nm depth me h = rw h
 
-pub node-size-start : (ns nm : List ℕ) (depth me size : ℕ) → (depth ≡ 0 → ⊥) → size ≡ cap (length (headBytes 20 ns nm me))
-    → cap (size + length (each (nodeBytes 20 ns nm (depth - 1)) (kids ns nm me (length ns / 72) 0))) ≡ cap (length (nodeBytes 20 ns nm depth me))
+pub node-size-start : (ns nm : List ℕ) (depth me size : ℕ) → (depth ≡ 0 → ⊥) → size ≡ cap (length (headBytes idSize ns nm me))
+    → cap (size + length (each (nodeBytes idSize ns nm (depth - 1)) (kids ns nm me (length ns / 72) 0))) ≡ cap (length (nodeBytes idSize ns nm depth me))
 node-size-start ns nm depth me size deep e =
-    let rest : ℕ = length (each (nodeBytes 20 ns nm (depth - 1)) (kids ns nm me (length ns / 72) 0)) in
-    let z : length (headBytes 20 ns nm me) + rest ≡ length (nodeBytes 20 ns nm depth me) = omega (arith, node-long ns nm depth me deep) in
-    ap (λ (k : ℕ). cap (k + rest)) e ∙ cap-cap (length (headBytes 20 ns nm me)) rest ∙ ap cap z
+    let rest : ℕ = length (each (nodeBytes idSize ns nm (depth - 1)) (kids ns nm me (length ns / 72) 0)) in
+    let z : length (headBytes idSize ns nm me) + rest ≡ length (nodeBytes idSize ns nm depth me) = omega (arith, node-long ns nm depth me deep) in
+    ap (λ (k : ℕ). cap (k + rest)) e ∙ cap-cap (length (headBytes idSize ns nm me)) rest ∙ ap cap z
 
-pub node-size-end : (ns nm : List ℕ) (b me left last size r : ℕ) → size ≤ largest → cap (size + length (each (nodeBytes 20 ns nm b) (kids ns nm me left last))) ≡ r → kids ns nm me left last ≡ [] → size ≡ r
+pub node-size-end : (ns nm : List ℕ) (b me left last size r : ℕ) → size ≤ largest → cap (size + length (each (nodeBytes idSize ns nm b) (kids ns nm me left last))) ≡ r → kids ns nm me left last ≡ [] → size ≡ r
 unfolding each
 node-size-end ns nm b me left last size r small inv none = let z : cap (size + 0) ≡ r = rw none at inv in omega (arith, z, cap-fits (size + 0) (omega arith))
 
-pub node-size-more : (ns nm : List ℕ) (b me left last kid size size′ one r : ℕ) → cap (size + length (each (nodeBytes 20 ns nm b) (kids ns nm me left last))) ≡ r → kids ns nm me left last ≡ kid ∷ kids ns nm me (left - 1) kid
-    → one ≡ cap (length (nodeBytes 20 ns nm b kid)) → size′ ≡ cap (size + one) → cap (size′ + length (each (nodeBytes 20 ns nm b) (kids ns nm me (left - 1) kid))) ≡ r
+pub node-size-more : (ns nm : List ℕ) (b me left last kid size size′ one r : ℕ) → cap (size + length (each (nodeBytes idSize ns nm b) (kids ns nm me left last))) ≡ r → kids ns nm me left last ≡ kid ∷ kids ns nm me (left - 1) kid
+    → one ≡ cap (length (nodeBytes idSize ns nm b kid)) → size′ ≡ cap (size + one) → cap (size′ + length (each (nodeBytes idSize ns nm b) (kids ns nm me (left - 1) kid))) ≡ r
 node-size-more ns nm b me left last kid size size′ one r inv is e q =
-    let rest : ℕ = length (each (nodeBytes 20 ns nm b) (kids ns nm me (left - 1) kid)) in
+    let rest : ℕ = length (each (nodeBytes idSize ns nm b) (kids ns nm me (left - 1) kid)) in
     let x : size + one + rest ≡ one + (size + rest) = omega arith in
-    let y : length (nodeBytes 20 ns nm b kid) + (size + rest) ≡ size + length (each (nodeBytes 20 ns nm b) (kids ns nm me left last)) = omega (arith, each-long b ns nm me left last kid 0 is) in
+    let y : length (nodeBytes idSize ns nm b kid) + (size + rest) ≡ size + length (each (nodeBytes idSize ns nm b) (kids ns nm me left last)) = omega (arith, each-long b ns nm me left last kid 0 is) in
     ap (λ (k : ℕ). cap (k + rest)) q
     ∙ cap-cap (size + one) rest
     ∙ ap cap x
     ∙ ap (λ (k : ℕ). cap (k + (size + rest))) e
-    ∙ cap-cap (length (nodeBytes 20 ns nm b kid)) (size + rest)
+    ∙ cap-cap (length (nodeBytes idSize ns nm b kid)) (size + rest)
     ∙ ap cap y
     ∙ inv
 
@@ -451,8 +452,8 @@ node-size-more ns nm b me left last kid size size′ one r inv is e q =
 fits : (tree : List ℕ) (k m size : ℕ) → k ≤ m → size ≡ cap (length tree) → size ≤ m - k → m < largest → k + length tree ≤ m
 fits tree k m size inside is h small = omega (arith, cap-below (length tree) (m - k) (omega arith) (omega arith))
 
-pub tree-fits : (ns nm : List ℕ) (k m size : ℕ) → k ≤ m → size ≡ cap (length (nodeBytes 20 ns nm 64 0)) → size ≤ m - k → m < largest → k + length (nodeBytes 20 ns nm 64 0) ≤ m
-tree-fits ns nm k m size inside is h small = fits (nodeBytes 20 ns nm 64 0) k m size inside is h small
+pub tree-fits : (ns nm : List ℕ) (k m size : ℕ) → k ≤ m → size ≡ cap (length (nodeBytes idSize ns nm depthLimit 0)) → size ≤ m - k → m < largest → k + length (nodeBytes idSize ns nm depthLimit 0) ≤ m
+tree-fits ns nm k m size inside is h small = fits (nodeBytes idSize ns nm depthLimit 0) k m size inside is h small
 
 module _ (out tree : List ℕ) (k : ℕ) where
   pub tree-past : length out < k → out ≡ putFit out k tree

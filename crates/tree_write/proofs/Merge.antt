@@ -10,6 +10,7 @@ use lib.Seq.{getD-set-same, getD-set-other}
 use borrow.Author.Tests.{eq-eqb, ne-eqb}
 use Rattle.laws.specs.Pick.{pick}
 use Rattle.laws.specs.Tests.{lt-or-ge, tri, Same, same, differs, same?}
+use Rattle.format.specs.Format.{depthLimit}
 use Rattle.node.specs.Store.{nodesIn, parentAt}
 use Rattle.walk_order.specs.Walk.{walks, nextChild}
 use Rattle.walk_order.specs.Child.{Next, next-found, next-first, child-behind, is-walk}
@@ -17,7 +18,7 @@ use Rattle.tree_write.specs.declared.runs.Runs.{Runs}
 use Rattle.tree_write.specs.Order.{before, false-true, before-not, before-trans, before-total}
 use Rattle.tree_write.specs.Tree.{after, ahead, nextKid}
 use Rattle.tree_write.specs.Kids.{Cand, Best, next-best, after-before, before-after, cand-on}
-use Rattle.tree_write.specs.Runs.{goesOn, follow, Run, begins, goes, Headed, Covers, Ready, firstOf, HeadAt, Least, movedTo, Moved, Stepped}
+use Rattle.tree_write.specs.Runs.{runsHeld, goesOn, follow, Run, begins, goes, Headed, Covers, Ready, firstOf, HeadAt, Least, movedTo, Moved, Stepped}
 
 zero-or : (m : ℕ) → (m ≡ 0) ⊎ (m ≡ 0 → ⊥)
 zero-or zero = inl refl
@@ -192,13 +193,13 @@ ready-next ns nm p last runs heads h q r l = least-next ns nm p last (runs .used
 
 -- heads before k are moved, the others are as they were
 pub record Moving (kid next used k : ℕ) (old new : List ℕ) : Type 0 where
-  pub few : used ≤ 64
-  pub long : length new ≡ 64
+  pub few : used ≤ runsHeld
+  pub long : length new ≡ runsHeld
   pub done : (i : ℕ) → i < k → getD new i 0 ≡ movedTo kid next (getD old i 0)
   pub rest : (i : ℕ) → k ≤ i → getD new i 0 ≡ getD old i 0
 
 module _ (kid next used : ℕ) (old : List ℕ) where
-  pub moving-start : used ≤ 64 → length old ≡ 64 → Moving kid next used 0 old old
+  pub moving-start : used ≤ runsHeld → length old ≡ runsHeld → Moving kid next used 0 old old
   moving-start few h = record { few = few; long = h; done = λ i l. absurd (omega arith); rest = λ i l. refl }
 
   module _ (k : ℕ) (new : List ℕ) (inv : Moving kid next used k old new) (head : ℕ) (e : head ≡ getD new k 0) (more : k < used) where
@@ -312,15 +313,15 @@ ready-step ns nm p last kid runs old new h is real m = record {
 
 -- the children of p up to x stand in the runs so far, and y is the next one
 pub record Begun (ns nm : List ℕ) (p x y used : ℕ) (heads : List ℕ) : Type 0 where
-  pub few : used ≤ 64
-  pub long : length heads ≡ 64
+  pub few : used ≤ runsHeld
+  pub long : length heads ≡ runsHeld
   pub low : p ≤ x
   pub next : y ≡ nextChild ns p x
   pub child : (x ≡ p → ⊥) → (x < nodesIn ns) × (parentAt ns x ≡ p)
   pub live : (i : ℕ) → i < used → (getD heads i 0 < nodesIn ns) × ((0 < getD heads i 0) × (parentAt ns (getD heads i 0) ≡ p))
   pub whole : (j : ℕ) → p < j → j ≤ x → j < nodesIn ns → parentAt ns j ≡ p → Headed ns nm p used heads j
 
-pub begun-start : (ns nm : List ℕ) (p y : ℕ) (heads : List ℕ) → length heads ≡ 64 → y ≡ nextChild ns p p → Begun ns nm p p y 0 heads
+pub begun-start : (ns nm : List ℕ) (p y : ℕ) (heads : List ℕ) → length heads ≡ runsHeld → y ≡ nextChild ns p p → Begun ns nm p p y 0 heads
 begun-start ns nm p y heads h e = record {
   few = omega arith;
   long = h;
@@ -335,9 +336,9 @@ at-first : (ns nm : List ℕ) (j : ℕ) → after ns nm 0 j ≡ true
 unfolding after
 at-first ns nm j = refl
 
-module _ (ns nm : List ℕ) (p : ℕ) (w : walks 64 ns ≡ true) (x y used : ℕ) (heads : List ℕ) (inv : Begun ns nm p x y used heads) where
+module _ (ns nm : List ℕ) (p : ℕ) (w : walks depthLimit ns ≡ true) (x y used : ℕ) (heads : List ℕ) (inv : Begun ns nm p x y used heads) where
   following : Next ns p x y
-  following = subst (λ (z : ℕ). Next ns p x z) (sym (inv .next)) (next-first 64 ns w p x (inv .low))
+  following = subst (λ (z : ℕ). Next ns p x z) (sym (inv .next)) (next-first depthLimit ns w p x (inv .low))
 
   begun-next : (y ≡ 0 → ⊥) → (x < y) × ((y < nodesIn ns) × (parentAt ns y ≡ p))
   begun-next h = following .found h
@@ -381,7 +382,7 @@ module _ (ns nm : List ℕ) (p : ℕ) (w : walks 64 ns ≡ true) (x y used : ℕ
         run = subst (λ (z : ℕ). Run ns nm p (getD heads (at-x .place) 0) z) (sym follows) (run-on ns nm p (at-x .run) (λ z. real (follows ∙ z)));
       }
 
-  pub begun-new : (used ≡ 64 → ⊥) → (y ≡ 0 → ⊥) → (y₁ : ℕ) → y₁ ≡ nextChild ns p y → Begun ns nm p y y₁ (used + 1) (set heads used y)
+  pub begun-new : (used ≡ runsHeld → ⊥) → (y ≡ 0 → ⊥) → (y₁ : ℕ) → y₁ ≡ nextChild ns p y → Begun ns nm p y y₁ (used + 1) (set heads used y)
   begun-new room real y₁ e =
       let f = begun-next real in
       record {
@@ -394,8 +395,8 @@ module _ (ns nm : List ℕ) (p : ℕ) (w : walks 64 ns ≡ true) (x y used : ℕ
         whole = λ j a b c d. ⊎-elim (λ q. kept j (inv .whole j a q c d)) (λ q. subst (λ (z : ℕ). Headed ns nm p (used + 1) (set heads used y) z) (sym q) headed) (reaches j b c d);
       }
     where
-      less : used < 64
-      less = ⊎-elim (λ l. l) (λ l. absurd (room (omega (arith, inv .few)))) (lt-or-ge used 64)
+      less : used < runsHeld
+      less = ⊎-elim (λ l. l) (λ l. absurd (room (omega (arith, inv .few)))) (lt-or-ge used runsHeld)
 
       new : getD (set heads used y) used 0 ≡ y
       new = getD-set-same heads used y 0 (omega (arith, inv .long, less))
@@ -426,7 +427,7 @@ module _ (ns nm : List ℕ) (p : ℕ) (w : walks 64 ns ≡ true) (x y used : ℕ
   begun-end h = record { few = inv .few; long = inv .long; covers = λ q. record { live = λ i l d. (inv .live i l .0, record { real = inv .live i l .1 .0; child = inv .live i l .1 .1; past = at-first ns nm (getD heads i 0) }); whole = λ j l k. inv .whole j (behind j l k) (reached j l k) l (k .child) } }
     where
       behind : (j : ℕ) → j < nodesIn ns → Cand ns nm p 0 j → p < j
-      behind j l k = subst (λ (z : ℕ). z < j) (k .child) (child-behind 64 ns w j (k .real) l)
+      behind j l k = subst (λ (z : ℕ). z < j) (k .child) (child-behind depthLimit ns w j (k .real) l)
 
       reached : (j : ℕ) → j < nodesIn ns → Cand ns nm p 0 j → j ≤ x
       reached j l k = ⊎-elim (λ q. absurd (none (following .first j q l (k .child) .0))) (λ q. q) (lt-or-ge x j)
@@ -437,7 +438,7 @@ module _ (ns nm : List ℕ) (p : ℕ) (w : walks 64 ns ≡ true) (x y used : ℕ
   pub begun-many : Ready ns nm p 0 (record { quick = false; used = used }) heads
   begun-many = record { few = inv .few; long = inv .long; covers = λ q. absurd (false-true q) }
 
-pub ready-slow : (ns nm : List ℕ) (p : ℕ) (heads : List ℕ) → length heads ≡ 64 → Ready ns nm p 0 (record { quick = false; used = 0 }) heads
+pub ready-slow : (ns nm : List ℕ) (p : ℕ) (heads : List ℕ) → length heads ≡ runsHeld → Ready ns nm p 0 (record { quick = false; used = 0 }) heads
 ready-slow ns nm p heads h = record { few = omega arith; long = h; covers = λ q. absurd (false-true q) }
 
 pub ruleset runs-laws = (goes-first, goes-next, follow-none, follow-next, follow-falls, first-dead, first-head, first-best, least-start, least-more, least-end, ready-next, moving-start, moving-head, moving-other, moving-end, stepped, begun-start, begun-less, begun-same, begun-new, begun-end, begun-many, ready-slow, is-walk)

@@ -6,6 +6,7 @@ ghost use Prim.Native.Nat.{_+_, _-_, _≤_, _<_};
 ghost use lib.ListN.{length};
 ghost use Rattle.laws.specs.Put.{put};
 ghost use Rattle.sums.specs.Cap.{cap};
+ghost use Rattle.format.specs.Format.{depthLimit, idSize};
 ghost use Rattle.walk_order.specs.Walk.{walks};
 ghost use Rattle.tree_write.specs.Order.{before};
 ghost use Rattle.tree_write.specs.Tree.{countBytes, frontBytes, numberBytes, idBytes, headBytes, after, ahead, better, nextKid, nodeBytes, treeBytes, putFit};
@@ -77,8 +78,8 @@ fn put_numbers(nodes: &[u8], i: usize, out: &mut [u8], at: usize) -> usize
 
 // The id, unless the count is negative.
 fn put_id(nodes: &[u8], i: usize, out: &mut [u8], at: usize) -> usize
-    requires { ⌜ at + length (idBytes 20 (now nodes) i) ≤ length (now out) ⌝ }
-    ensures { λ r. ⌜ (r ≡ at + length (idBytes 20 (now (nodes .entry)) i)) × (now (out .exit) ≡ put (now (out .entry)) at (idBytes 20 (now (nodes .entry)) i)) ⌝ }
+    requires { ⌜ at + length (idBytes idSize (now nodes) i) ≤ length (now out) ⌝ }
+    ensures { λ r. ⌜ (r ≡ at + length (idBytes idSize (now (nodes .entry)) i)) × (now (out .exit) ≡ put (now (out .entry)) at (idBytes idSize (now (nodes .entry)) i)) ⌝ }
 {
     let count = node::count(nodes, i);
     if count == node::MINUS_ONE {
@@ -90,8 +91,8 @@ fn put_id(nodes: &[u8], i: usize, out: &mut [u8], at: usize) -> usize
 
 // Writes the head of node i, and answers where it ends.
 fn put_head(nodes: &[u8], names: &[u8], i: usize, out: &mut [u8], at: usize) -> usize
-    requires { ⌜ at + length (headBytes 20 (now nodes) (now names) i) ≤ length (now out) ⌝ }
-    ensures { λ r. ⌜ (r ≡ at + length (headBytes 20 (now (nodes .entry)) (now (names .entry)) i)) × (now (out .exit) ≡ put (now (out .entry)) at (headBytes 20 (now (nodes .entry)) (now (names .entry)) i)) ⌝ }
+    requires { ⌜ at + length (headBytes idSize (now nodes) (now names) i) ≤ length (now out) ⌝ }
+    ensures { λ r. ⌜ (r ≡ at + length (headBytes idSize (now (nodes .entry)) (now (names .entry)) i)) × (now (out .exit) ≡ put (now (out .entry)) at (headBytes idSize (now (nodes .entry)) (now (names .entry)) i)) ⌝ }
 {
     let first = put_front(nodes, names, i, out, at);
     let second = put_numbers(nodes, i, out, first);
@@ -100,7 +101,7 @@ fn put_head(nodes: &[u8], names: &[u8], i: usize, out: &mut [u8], at: usize) -> 
 
 // How many bytes the id has, none where the count is negative.
 fn id_size(nodes: &[u8], i: usize) -> usize
-    ensures { λ r. ⌜ r ≡ length (idBytes 20 (now (nodes .entry)) i) ⌝ }
+    ensures { λ r. ⌜ r ≡ length (idBytes idSize (now (nodes .entry)) i) ⌝ }
 {
     let count = node::count(nodes, i);
     if count == node::MINUS_ONE {
@@ -112,7 +113,7 @@ fn id_size(nodes: &[u8], i: usize) -> usize
 
 // How many bytes the head of node i has.
 fn head_size(nodes: &[u8], names: &[u8], i: usize) -> usize
-    ensures { λ r. ⌜ r ≡ cap (length (headBytes 20 (now (nodes .entry)) (now (names .entry)) i)) ⌝ }
+    ensures { λ r. ⌜ r ≡ cap (length (headBytes idSize (now (nodes .entry)) (now (names .entry)) i)) ⌝ }
 {
     let name = node::name(names, nodes, i);
     let count = node::count(nodes, i);
@@ -120,10 +121,10 @@ fn head_size(nodes: &[u8], names: &[u8], i: usize) -> usize
     let digits = count_size(count);
     let more = wire::decimal_size(subtrees);
     let id = id_size(nodes, i);
-    let named = sums::plus(name.len(), 3);
-    let counted = sums::plus(named, digits);
-    let numbered = sums::plus(counted, more);
-    sums::plus(numbered, id)
+    let named = sums::saturating_add(name.len(), 3);
+    let counted = sums::saturating_add(named, digits);
+    let numbered = sums::saturating_add(counted, more);
+    sums::saturating_add(numbered, id)
 }
 
 // Whether node i comes before node j: by name, and by index where the names are equal.
@@ -187,7 +188,7 @@ fn better_of(nodes: &[u8], names: &[u8], parent: usize, last: usize, best: usize
 fn next_kid(nodes: &[u8], names: &[u8], parent: usize, last: usize) -> usize
     ensures { λ r. ⌜ r ≡ nextKid (now (nodes .entry)) (now (names .entry)) parent last ⌝ }
 {
-    let n = nodes.len() / node::NODE_SIZE;
+    let n = node::nodes_in(nodes);
     let mut best: usize = 0;
     let mut j: usize = 1;
     while j < n {
@@ -207,17 +208,17 @@ fn put_node(
     at: usize,
     depth: usize,
 ) -> usize
-    requires { ⌜ at + length (nodeBytes 20 (now nodes) (now names) depth me) ≤ length (now out) ⌝ }
-    requires { ⌜ walk ≡ walks 64 (now nodes) ⌝ }
-    ensures { λ r. ⌜ r ≡ at + length (nodeBytes 20 (now (nodes .entry)) (now (names .entry)) depth me) ⌝ }
-    ensures { λ _. ⌜ now (out .exit) ≡ put (now (out .entry)) at (nodeBytes 20 (now (nodes .entry)) (now (names .entry)) depth me) ⌝ }
+    requires { ⌜ at + length (nodeBytes idSize (now nodes) (now names) depth me) ≤ length (now out) ⌝ }
+    requires { ⌜ walk ≡ walks depthLimit (now nodes) ⌝ }
+    ensures { λ r. ⌜ r ≡ at + length (nodeBytes idSize (now (nodes .entry)) (now (names .entry)) depth me) ⌝ }
+    ensures { λ _. ⌜ now (out .exit) ≡ put (now (out .entry)) at (nodeBytes idSize (now (nodes .entry)) (now (names .entry)) depth me) ⌝ }
 {
     if depth == 0 {
         return at;
     }
     let below = depth - 1;
     let mut pos = put_head(nodes, names, me, out, at);
-    let mut heads = [0usize; 64];
+    let mut heads = [0usize; runs::MOST_RUNS];
     let runs = runs::begin(nodes, names, walk, me, &mut heads);
     let used = runs.used;
     let mut last: usize = 0;
@@ -237,15 +238,15 @@ fn put_node(
 
 // How many bytes node me and what is below it are written into.
 fn node_size(nodes: &[u8], names: &[u8], walk: bool, me: usize, depth: usize) -> usize
-    requires { ⌜ walk ≡ walks 64 (now nodes) ⌝ }
-    ensures { λ r. ⌜ r ≡ cap (length (nodeBytes 20 (now (nodes .entry)) (now (names .entry)) depth me)) ⌝ }
+    requires { ⌜ walk ≡ walks depthLimit (now nodes) ⌝ }
+    ensures { λ r. ⌜ r ≡ cap (length (nodeBytes idSize (now (nodes .entry)) (now (names .entry)) depth me)) ⌝ }
 {
     if depth == 0 {
         return 0;
     }
     let below = depth - 1;
     let mut size = head_size(nodes, names, me);
-    let mut heads = [0usize; 64];
+    let mut heads = [0usize; runs::MOST_RUNS];
     let runs = runs::begin(nodes, names, walk, me, &mut heads);
     let used = runs.used;
     let mut last: usize = 0;
@@ -256,7 +257,7 @@ fn node_size(nodes: &[u8], names: &[u8], walk: bool, me: usize, depth: usize) ->
             return size;
         }
         let one = node_size(nodes, names, walk, kid, below);
-        size = sums::plus(size, one);
+        size = sums::saturating_add(size, one);
         runs::step(nodes, names, me, used, &mut heads, kid);
         last = kid;
         left -= 1;
@@ -266,7 +267,7 @@ fn node_size(nodes: &[u8], names: &[u8], walk: bool, me: usize, depth: usize) ->
 
 // How many bytes the tree of a table is written into.
 pub fn tree_size(nodes: &[u8], names: &[u8]) -> usize
-    ensures { λ r. ⌜ r ≡ cap (length (treeBytes 20 64 (now (nodes .entry)) (now (names .entry)))) ⌝ }
+    ensures { λ r. ⌜ r ≡ cap (length (treeBytes idSize depthLimit (now (nodes .entry)) (now (names .entry)))) ⌝ }
 {
     let walk = walk_order::in_walk_order(nodes);
     node_size(nodes, names, walk, 0, format::DEPTH_LIMIT)
@@ -274,7 +275,7 @@ pub fn tree_size(nodes: &[u8], names: &[u8]) -> usize
 
 // Writes the tree of a table at `at`; nothing where it does not fit.
 pub fn put_tree(nodes: &[u8], names: &[u8], out: &mut [u8], at: usize)
-    ensures { λ _. ⌜ now (out .exit) ≡ putFit (now (out .entry)) at (treeBytes 20 64 (now (nodes .entry)) (now (names .entry))) ⌝ }
+    ensures { λ _. ⌜ now (out .exit) ≡ putFit (now (out .entry)) at (treeBytes idSize depthLimit (now (nodes .entry)) (now (names .entry))) ⌝ }
 {
     if out.len() < at {
         return;

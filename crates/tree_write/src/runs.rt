@@ -4,12 +4,13 @@ ghost use mathlib.Core.Bool.{true};
 ghost use mathlib.Core.Path.{_≡_};
 ghost use Prim.Native.Nat.{_≤_};
 ghost use lib.ListN.{length};
+ghost use Rattle.format.specs.Format.{depthLimit};
 ghost use Rattle.walk_order.specs.Walk.{walks};
 ghost use Rattle.tree_write.specs.Tree.{nextKid};
-ghost use Rattle.tree_write.specs.Runs.{goesOn, follow, firstOf, Least, Moved, Stepped, Ready};
+ghost use Rattle.tree_write.specs.Runs.{runsHeld, goesOn, follow, firstOf, Least, Moved, Stepped, Ready};
 
 // The most runs that are kept; the children of a folder that has more are found by passes over the table.
-const MOST_RUNS: usize = 64;
+pub const MOST_RUNS: usize = 64;
 
 // How many runs there are. The first child left of each, or 0, is kept in a lent array, their heads. Not quick where nothing is known of the heads.
 pub struct Runs {
@@ -28,9 +29,9 @@ fn goes_on(nodes: &[u8], names: &[u8], p: usize, x: usize, y: usize) -> bool
 }
 
 // The runs of the children of p.
-fn runs_of(nodes: &[u8], names: &[u8], p: usize, heads: &mut [usize; 64]) -> Runs
-    requires { ⌜ walks 64 (now nodes) ≡ true ⌝ }
-    requires { ⌜ length (now heads) ≡ 64 ⌝ }
+fn runs_of(nodes: &[u8], names: &[u8], p: usize, heads: &mut [usize; MOST_RUNS]) -> Runs
+    requires { ⌜ walks depthLimit (now nodes) ≡ true ⌝ }
+    requires { ⌜ length (now heads) ≡ runsHeld ⌝ }
     ensures { λ r. ⌜ Ready (now (nodes .entry)) (now (names .entry)) p 0 r (now (heads .exit)) ⌝ }
 {
     let mut used: usize = 0;
@@ -54,9 +55,15 @@ fn runs_of(nodes: &[u8], names: &[u8], p: usize, heads: &mut [usize; 64]) -> Run
 }
 
 // What is known of the children of p before the first of them is written.
-pub fn begin(nodes: &[u8], names: &[u8], walk: bool, p: usize, heads: &mut [usize; 64]) -> Runs
-    requires { ⌜ walk ≡ walks 64 (now nodes) ⌝ }
-    requires { ⌜ length (now heads) ≡ 64 ⌝ }
+pub fn begin(
+    nodes: &[u8],
+    names: &[u8],
+    walk: bool,
+    p: usize,
+    heads: &mut [usize; MOST_RUNS],
+) -> Runs
+    requires { ⌜ walk ≡ walks depthLimit (now nodes) ⌝ }
+    requires { ⌜ length (now heads) ≡ runsHeld ⌝ }
     ensures { λ r. ⌜ Ready (now (nodes .entry)) (now (names .entry)) p 0 r (now (heads .exit)) ⌝ }
 {
     if walk {
@@ -83,8 +90,8 @@ fn first_of(nodes: &[u8], names: &[u8], head: usize, best: usize) -> usize
 }
 
 // The least head, or 0.
-fn least(nodes: &[u8], names: &[u8], used: usize, heads: &[usize; 64]) -> usize
-    requires { ⌜ (used ≤ 64) × (length (now heads) ≡ 64) ⌝ }
+fn least(nodes: &[u8], names: &[u8], used: usize, heads: &[usize; MOST_RUNS]) -> usize
+    requires { ⌜ (used ≤ runsHeld) × (length (now heads) ≡ runsHeld) ⌝ }
     ensures { λ r. ⌜ Least (now (nodes .entry)) (now (names .entry)) used (now (heads .entry)) r ⌝ }
 {
     let mut best: usize = 0;
@@ -104,7 +111,7 @@ pub fn next(
     p: usize,
     last: usize,
     runs: Runs,
-    heads: &[usize; 64],
+    heads: &[usize; MOST_RUNS],
 ) -> usize
     requires { ⌜ Ready (now nodes) (now names) p last runs (now heads) ⌝ }
     ensures { λ r. ⌜ r ≡ nextKid (now (nodes .entry)) (now (names .entry)) p last ⌝ }
@@ -133,8 +140,8 @@ fn follow(nodes: &[u8], names: &[u8], p: usize, x: usize) -> usize
 }
 
 // Puts `next` for the head `kid`.
-fn move_on(heads: &mut [usize; 64], used: usize, kid: usize, next: usize)
-    requires { ⌜ (used ≤ 64) × (length (now heads) ≡ 64) ⌝ }
+fn move_on(heads: &mut [usize; MOST_RUNS], used: usize, kid: usize, next: usize)
+    requires { ⌜ (used ≤ runsHeld) × (length (now heads) ≡ runsHeld) ⌝ }
     ensures { λ _. ⌜ Moved kid next used (now (heads .entry)) (now (heads .exit)) ⌝ }
 {
     let mut i: usize = 0;
@@ -150,8 +157,15 @@ fn move_on(heads: &mut [usize; 64], used: usize, kid: usize, next: usize)
 }
 
 // Moves the heads on past the child `kid`.
-pub fn step(nodes: &[u8], names: &[u8], p: usize, used: usize, heads: &mut [usize; 64], kid: usize)
-    requires { ⌜ (used ≤ 64) × (length (now heads) ≡ 64) ⌝ }
+pub fn step(
+    nodes: &[u8],
+    names: &[u8],
+    p: usize,
+    used: usize,
+    heads: &mut [usize; MOST_RUNS],
+    kid: usize,
+)
+    requires { ⌜ (used ≤ runsHeld) × (length (now heads) ≡ runsHeld) ⌝ }
     ensures { λ _. ⌜ Stepped (now (nodes .entry)) (now (names .entry)) p kid used (now (heads .entry)) (now (heads .exit)) ⌝ }
 {
     let next = follow(nodes, names, p, kid);

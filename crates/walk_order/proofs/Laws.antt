@@ -1,12 +1,13 @@
 -- Laws of the walk order's definitions, turned the way that the needs ask. Assumes nothing.
 use mathlib.Core.Bool.{Bool, true, false}
-use mathlib.Core.Path.{_≡_, refl, sym, ap, _∙_}
+use mathlib.Core.Path.{_≡_, sym, ap, _∙_}
 use mathlib.Core.List.{List}
 use Prim.Native.Nat.{ℕ, suc, _+_, _-_, _≤_, _<_}
 use native.Mathlib.Omega.{arith}
 use lib.Dec.{ltb, eqb}
 use borrow.Author.Tests.{lt-ltb, le-ltb, eq-eqb, ne-eqb}
 use Rattle.laws.specs.Pick.{pick}
+use Rattle.format.specs.Format.{depthLimit}
 use Rattle.node.specs.Store.{nodesIn, parentAt}
 use Rattle.walk_order.specs.Walk.{climbsTo, walksFrom, walks, childFrom, nextChild}
 
@@ -32,39 +33,39 @@ module _ (ns : List ℕ) (left i q : ℕ) (r : Bool) (inv : climbsTo ns left i q
 
 -- ---- the pass over the table
 
-pub walk-start : (ns : List ℕ) → walksFrom 64 ns (nodesIn ns - 1) 1 ≡ walks 64 ns
+pub walk-start : (ns : List ℕ) (n : ℕ) → n ≡ nodesIn ns → walksFrom depthLimit ns (n - 1) 1 ≡ walks depthLimit ns
 unfolding walks
-walk-start ns = refl
+walk-start ns n e = rw e
 
-module _ (ns : List ℕ) (n j : ℕ) (r : Bool) (inv : walksFrom 64 ns (n - j) j ≡ r) where
+module _ (ns : List ℕ) (n j : ℕ) (r : Bool) (inv : walksFrom depthLimit ns (n - j) j ≡ r) where
   pub walk-end : n ≤ j → true ≡ r
   unfolding walksFrom
   walk-end h = let z : n - j ≡ 0 = omega arith in rw z at inv
 
-  module _ (h : j < n) (p b : ℕ) (ep : p ≡ parentAt ns j) (eb : b ≡ j - 1) (t : Bool) (et : t ≡ climbsTo ns 64 b p) where
-    cut : pick t (walksFrom 64 ns (n - (j + 1)) (j + 1)) false ≡ r
+  module _ (h : j < n) (p b : ℕ) (ep : p ≡ parentAt ns j) (eb : b ≡ j - 1) (t : Bool) (et : t ≡ climbsTo ns depthLimit b p) where
+    cut : pick t (walksFrom depthLimit ns (n - (j + 1)) (j + 1)) false ≡ r
     unfolding walksFrom
     cut =
         let z : n - j ≡ suc (n - (j + 1)) = omega arith in
-        let s : t ≡ climbsTo ns 64 (j - 1) (parentAt ns j) = et ∙ (λ k. climbsTo ns 64 (eb k) (ep k)) in
+        let s : t ≡ climbsTo ns depthLimit (j - 1) (parentAt ns j) = et ∙ (λ k. climbsTo ns depthLimit (eb k) (ep k)) in
         sym (rw (z, ← s)) ∙ inv
 
-    pub walk-more : t ≡ true → walksFrom 64 ns (n - (j + 1)) (j + 1) ≡ r
-    walk-more k = sym (ap (λ (x : Bool). pick x (walksFrom 64 ns (n - (j + 1)) (j + 1)) false) k) ∙ cut
+    pub walk-more : t ≡ true → walksFrom depthLimit ns (n - (j + 1)) (j + 1) ≡ r
+    walk-more k = sym (ap (λ (x : Bool). pick x (walksFrom depthLimit ns (n - (j + 1)) (j + 1)) false) k) ∙ cut
 
     pub walk-not : t ≡ false → false ≡ r
-    walk-not k = sym (ap (λ (x : Bool). pick x (walksFrom 64 ns (n - (j + 1)) (j + 1)) false) k) ∙ cut
+    walk-not k = sym (ap (λ (x : Bool). pick x (walksFrom depthLimit ns (n - (j + 1)) (j + 1)) false) k) ∙ cut
 
 -- ---- the search
 
-module _ (ns : List ℕ) (p x : ℕ) where
-  pub child-past : nodesIn ns ≤ x → 0 ≡ nextChild ns p x
+module _ (ns : List ℕ) (p x n : ℕ) (e : n ≡ nodesIn ns) where
+  pub child-past : n ≤ x → 0 ≡ nextChild ns p x
   unfolding nextChild childFrom
   child-past h = let z : nodesIn ns - (x + 1) ≡ 0 = omega arith in sym (rw z)
 
-  pub child-start : childFrom ns p (nodesIn ns - (x + 1)) (x + 1) ≡ nextChild ns p x
+  pub child-start : childFrom ns p (n - (x + 1)) (x + 1) ≡ nextChild ns p x
   unfolding nextChild
-  child-start = refl
+  child-start = rw e
 
 module _ (ns : List ℕ) (p n j r : ℕ) (inv : childFrom ns p (n - j) j ≡ r) where
   pub child-end : n ≤ j → 0 ≡ r

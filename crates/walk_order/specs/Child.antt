@@ -10,6 +10,7 @@ use lib.Dec.{eqb}
 use borrow.Author.Tests.{eqb-true}
 use Rattle.laws.specs.Pick.{pick}
 use Rattle.laws.specs.Tests.{lt-or-ge, Less, less, not-less, less?, Same, same, differs, same?}
+use Rattle.format.specs.Format.{depthLimit}
 use Rattle.node.specs.Store.{nodesIn, parentAt}
 use Rattle.walk_order.specs.Walk.{climbsTo, walksFrom, walks, childFrom, nextChild}
 
@@ -68,7 +69,7 @@ each-walks limit ns (suc k) j h i l m =
     equal q = omega arith
 
 -- where the test says so, the table is in walk order
-pub is-walk : (ns : List ℕ) (t : Bool) → t ≡ walks 64 ns → t ≡ true → walks 64 ns ≡ true
+pub is-walk : (ns : List ℕ) (t : Bool) → t ≡ walks depthLimit ns → t ≡ true → walks depthLimit ns ≡ true
 is-walk ns t e h = sym e ∙ h
 
 module _ (limit : ℕ) (ns : List ℕ) (w : walks limit ns ≡ true) where

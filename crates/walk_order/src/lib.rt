@@ -1,11 +1,12 @@
 // Node tables in walk order, as the reader stores them: what is below a node stands right behind it. There a node's children are found among the nodes behind it, and
 // the search ends with the last of them.
 ghost use mathlib.Core.Path.{_≡_};
+ghost use Rattle.format.specs.Format.{depthLimit};
 ghost use Rattle.walk_order.specs.Walk.{climbsTo, walks, nextChild};
 
 // Whether `to` is `from`, or is reached from there by parents.
 fn climbs_to(nodes: &[u8], from: usize, to: usize) -> bool
-    ensures { λ r. ⌜ r ≡ climbsTo (now (nodes .entry)) 64 from to ⌝ }
+    ensures { λ r. ⌜ r ≡ climbsTo (now (nodes .entry)) depthLimit from to ⌝ }
 {
     let mut node = from;
     let mut left = format::DEPTH_LIMIT;
@@ -23,9 +24,9 @@ fn climbs_to(nodes: &[u8], from: usize, to: usize) -> bool
 // Whether the table is in walk order: the parent of each node but the first is the node before it, or is reached from there. Each climb goes over nodes that no later
 // one goes over again, so the test costs one pass.
 pub fn in_walk_order(nodes: &[u8]) -> bool
-    ensures { λ r. ⌜ r ≡ walks 64 (now (nodes .entry)) ⌝ }
+    ensures { λ r. ⌜ r ≡ walks depthLimit (now (nodes .entry)) ⌝ }
 {
-    let n = nodes.len() / node::NODE_SIZE;
+    let n = node::nodes_in(nodes);
     let mut j: usize = 1;
     while j < n {
         let p = node::parent(nodes, j);
@@ -43,7 +44,7 @@ pub fn in_walk_order(nodes: &[u8]) -> bool
 pub fn next_child(nodes: &[u8], p: usize, x: usize) -> usize
     ensures { λ r. ⌜ r ≡ nextChild (now (nodes .entry)) p x ⌝ }
 {
-    let n = nodes.len() / node::NODE_SIZE;
+    let n = node::nodes_in(nodes);
     if n <= x {
         return 0;
     }

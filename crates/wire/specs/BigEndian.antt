@@ -20,10 +20,27 @@ unfoldable pub bytesOf : ℕ → ℕ → List ℕ
 bytesOf zero x = []
 bytesOf (suc w) x = bytesOf w (x / 256) ++ (x % 256 ∷ [])
 
+-- the four bytes of x in the other order, and the eight
+abbrev pub swapBytes32 : ℕ → ℕ
+swapBytes32 x = (((x % 256) * 256 + x / 256 % 256) * 256 + x / 256 / 256 % 256) * 256 + x / 256 / 256 / 256
+
+abbrev pub swapBytes64 : ℕ → ℕ
+swapBytes64 x = swapBytes32 (x % 4294967296) * 4294967296 + swapBytes32 (x / 4294967296)
+
 pub length-bytes : (w x : ℕ) → length (bytesOf w x) ≡ w
 unfolding bytesOf
 length-bytes zero x = refl
 length-bytes (suc w) x = length-append (bytesOf w (x / 256)) (x % 256 ∷ []) ∙ omega (arith, length-bytes w (x / 256))
+
+-- two numbers side by side are one
+pub be-join : (w v : ℕ) (s : List ℕ) (i : ℕ) → beAt (w + v) s i ≡ beAt w s i * 256 ^ v + beAt v s (i + w)
+unfolding beAt
+be-join w zero s i = let e : w + 0 ≡ w = omega arith in rw e (omega arith)
+be-join w (suc v) s i =
+    let e : w + suc v ≡ suc (w + v) = omega arith in
+    let ih : beAt (w + v) s i ≡ beAt w s i * 256 ^ v + beAt v s (i + w) = be-join w v s i in
+    let q : i + w + v ≡ i + (w + v) = add-assoc i w v in
+    rw (e, pow-suc 256 v, q) (omega arith)
 
 -- two lists that have the same w bytes at two places
 pub be-same : (w : ℕ) (s t : List ℕ) (i j : ℕ) → ((m : ℕ) → m < w → getD s (i + m) 0 ≡ getD t (j + m) 0) → beAt w s i ≡ beAt w t j

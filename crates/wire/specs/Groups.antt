@@ -1,9 +1,13 @@
 -- The number in groups of seven bits (01, How an entry is spelled): the first group's low 7 bits; while a group has its high bit, value = (value + 1) * 128 + the
 -- next group's low 7 bits. A value above 2^64 - 1 is none. Assumes nothing.
-use Prim.Native.Nat.{ℕ, zero, suc, _+_, _-_, _*_, _%_, _^_}
+use mathlib.Core.Path.{_≡_, sym, ap, _∙_}
+use Prim.Native.Nat.{ℕ, zero, suc, _+_, _-_, _*_, _%_, _^_, _≤_, _<_}
+use native.Mathlib.Omega.{arith}
 use mathlib.Core.List.{List, [], _∷_}
-use lib.ListN.{drop}
+use lib.ListN.{length, getD, drop}
 use lib.Dec.{ltb}
+use borrow.Author.Tests.{lt-ltb}
+use Rattle.laws.specs.Lists.{drop-next}
 use Rattle.laws.specs.Pick.{pick}
 use Rattle.wire.specs.declared.Number.{Number}
 use Rattle.wire.specs.declared.Number.the-variants.{Is, Cut, Over}
@@ -20,3 +24,11 @@ groupsIn (suc f) (c ∷ l) i a =
 -- the number from `at` on, before `end`
 unfoldable pub numberAt : List ℕ → ℕ → ℕ → Number
 numberAt s at end = groupsIn (end - at) (drop at s) at 0
+
+-- a group below 128 is the last
+pub groups-end : (s : List ℕ) (i end a c : ℕ) → c ≡ getD s i 0 → i < end → end ≤ length s → c < 128 → groupsIn (end - i) (drop i s) i a ≡ Is (a * 128 + c % 128) (i + 1)
+unfolding groupsIn
+groups-end s i end a c same h k m =
+    let left : end - i ≡ suc (end - (i + 1)) = omega arith in
+    let here : drop i s ≡ c ∷ drop (i + 1) s = drop-next s i (omega arith) ∙ ap (λ (x : ℕ). x ∷ drop (i + 1) s) (sym same) in
+    rw (left, here, lt-ltb c 128 m)

@@ -4,4 +4,3 @@ pub mod BigEndian
 pub mod Groups
 pub mod Digits
 pub mod Written
-pub mod Laws

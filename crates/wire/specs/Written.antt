@@ -6,11 +6,10 @@ use Prim.Native.Nat.{ℕ, zero, suc, _+_, _/_, _%_, _≤_, _<_}
 use native.Mathlib.Nat.{div-lt-self}
 use native.Mathlib.Omega.{arith}
 use lib.Dec.{ltb}
-use lib.ListN.{length, set, length-append}
+use lib.ListN.{length, length-append}
 use borrow.Author.Tests.{lt-ltb, le-ltb}
 use Rattle.laws.specs.Pick.{pick}
 use Rattle.laws.specs.Tests.{lt-or-ge}
-use Rattle.laws.specs.Put.{put, put-put, length-put, set-put}
 use mathlib.Core.Logic.{⊎-elim}
 
 -- at most f digits; there are fewer than x + 1
@@ -47,41 +46,10 @@ digits-more base x b h =
     let d : x / base < x = div-lt-self p b in
     rw (le-ltb x base h) (ap (λ (l : List ℕ). l ++ ((48 + x % base) ∷ [])) (digits-enough base x (suc (x / base)) (x / base) b d (omega arith)))
 
--- ---- turns of the code
+-- ---- how many there are
 
 pub size-one : (x : ℕ) → x < 10 → 1 ≡ length (digitsOf 10 x)
 size-one x h = sym (ap length (digits-one 10 x h))
 
 pub size-more : (x : ℕ) → 10 ≤ x → length (digitsOf 10 x) ≡ length (digitsOf 10 (x / 10)) + 1
 size-more x h = ap length (digits-more 10 x (omega arith) h) ∙ length-append (digitsOf 10 (x / 10)) ((48 + x % 10) ∷ [])
-
-module _ (d : List ℕ) (i x : ℕ) (room : i + length (digitsOf 10 x) ≤ length d) where
-  pub put-digit : x < 10 → (c : ℕ) → c ≡ 48 + x → set d i c ≡ put d i (digitsOf 10 x)
-  put-digit h c e = rw (digits-one 10 x h, e) (set-put d i (48 + x) (omega (arith, size-one x h)))
-
-  pub put-digits : 10 ≤ x → (d₁ : List ℕ) → d₁ ≡ put d i (digitsOf 10 (x / 10)) → (n c : ℕ) → n ≡ i + length (digitsOf 10 (x / 10)) → c ≡ 48 + x % 10
-      → set d₁ n c ≡ put d i (digitsOf 10 x)
-  put-digits h d₁ e n c en ec =
-      let ds : List ℕ = digitsOf 10 (x / 10) in
-      let l : length (put d i ds) ≡ length d = length-put d ds i (omega (arith, size-more x h)) in
-      (λ k. set (e k) (en k) (ec k))
-      ∙ set-put (put d i ds) (i + length ds) (48 + x % 10) (omega (arith, size-more x h))
-      ∙ put-put d ds ((48 + x % 10) ∷ []) i (omega arith)
-      ∙ ap (λ (xs : List ℕ). put d i xs) (sym (digits-more 10 x (omega arith) h))
-
-  pub put-digit-slot : x < 10 → i < length d
-  put-digit-slot h = omega (arith, size-one x h)
-
-  pub put-digit-next : x < 10 → i + 1 ≡ i + length (digitsOf 10 x)
-  put-digit-next h = omega (arith, size-one x h)
-
-  pub put-digits-slot : 10 ≤ x → (d₁ : List ℕ) → d₁ ≡ put d i (digitsOf 10 (x / 10)) → (n : ℕ) → n ≡ i + length (digitsOf 10 (x / 10)) → n < length d₁
-  put-digits-slot h d₁ e n en = omega (arith, size-more x h, ap length e, length-put d (digitsOf 10 (x / 10)) i (omega (arith, size-more x h)))
-
-  pub put-digits-next : 10 ≤ x → (n : ℕ) → n ≡ i + length (digitsOf 10 (x / 10)) → n + 1 ≡ i + length (digitsOf 10 x)
-  put-digits-next h n en = omega (arith, size-more x h)
-
-  pub put-room : 10 ≤ x → i + length (digitsOf 10 (x / 10)) ≤ length d
-  put-room h = omega (arith, size-more x h)
-
-pub ruleset written = (put-digit, put-digit-slot, put-digit-next, put-digits, put-digits-slot, put-digits-next, put-room)

@@ -4,7 +4,7 @@ ghost use Prim.Native.Nat.{_+_, _-_, _*_, _/_, _%_, _≤_, _<_};
 ghost use lib.ListN.{length, drop};
 ghost use lib.Seq.{paste};
 ghost use Rattle.laws.specs.Put.{put};
-ghost use Rattle.wire.specs.BigEndian.{beAt, bytesOf};
+ghost use Rattle.wire.specs.BigEndian.{beAt, bytesOf, swapBytes32, swapBytes64};
 ghost use Rattle.wire.specs.Groups.{numberAt};
 ghost use Rattle.wire.specs.Written.{digitsOf};
 ghost use Rattle.wire.specs.Digits.{grown, digitsIn, unsignedAt, plain, negated, signedAt};
@@ -42,14 +42,48 @@ pub fn be32(s: &[u8], at: usize) -> u32
     cat32(s[at], s[at + 1], s[at + 2], s[at + 3])
 }
 
-// The eight bytes at `at` as a number, the upper first.
+// The four bytes of x in the other order.
+fn swap_bytes32(x: u32) -> u32
+    ensures { λ r. ⌜ r ≡ swapBytes32 x ⌝ }
+{
+    (((x % 256) * 256 + x / 256 % 256) * 256 + x / 256 / 256 % 256) * 256 + x / 256 / 256 / 256
+}
+
+// The eight bytes of x in the other order.
+fn swap_bytes64(x: u64) -> u64
+    ensures { λ r. ⌜ r ≡ swapBytes64 x ⌝ }
+{
+    let low = (x % 4294967296) as u32;
+    let high = (x / 4294967296) as u32;
+    let upper = swap_bytes32(low);
+    let lower = swap_bytes32(high);
+    (upper as u64) * 4294967296 + (lower as u64)
+}
+
+fn cat64(a: u8, b: u8, c: u8, d: u8, e: u8, f: u8, g: u8, h: u8) -> u64
+    ensures { λ r. ⌜ r ≡ (((a * 256 + b) * 256 + c) * 256 + d) * 4294967296 + (((e * 256 + f) * 256 + g) * 256 + h) ⌝ }
+{
+    let low = cat32(d, c, b, a);
+    let high = cat32(h, g, f, e);
+    swap_bytes64((high as u64) * 4294967296 + (low as u64))
+}
+
+// The eight bytes at `at` as a number, the upper first. `cat64` puts them together with the lower first, as the processor has them, and swaps them: the compiler
+// makes of that one load and one swap of the bytes, also where the number goes into sums, and it is little enough that callers' loops are inlined.
 pub fn be64(s: &[u8], at: usize) -> u64
     requires { ⌜ at + 8 ≤ length (now s) ⌝ }
     ensures { λ r. ⌜ r ≡ beAt 8 (now (s .entry)) at ⌝ }
 {
-    let high = be32(s, at);
-    let low = be32(s, at + 4);
-    (high as u64) * 4294967296 + (low as u64)
+    cat64(
+        s[at],
+        s[at + 1],
+        s[at + 2],
+        s[at + 3],
+        s[at + 4],
+        s[at + 5],
+        s[at + 6],
+        s[at + 7],
+    )
 }
 
 // The lowest eight bits of a number.

@@ -1,5 +1,6 @@
 -- The whole file as it is written (01, Writing, and write.rs, tree/write.rs, end_of_index_entry/write.rs), over the length of an id and its hash: header, entries,
--- TREE, `sdir`, EOIE and the trailer, one after the other; and what the writer answers. Assumes nothing.
+-- the extensions, EOIE and the trailer, one after the other; and what the writer answers. The extensions are one list, and their bytes, their length and what EOIE says of
+-- them follow from it. Assumes nothing.
 use Prim.Native.Nat.{ℕ, _+_}
 use mathlib.Core.Bool.{Bool, true, false}
 use mathlib.Core.Path.{_≡_}
@@ -7,17 +8,20 @@ use mathlib.Core.List.{List, [], _∷_, _++_}
 use lib.Dec.{ltb}
 use lib.ListN.{length, drop, replicate}
 use Rattle.laws.specs.Pick.{pick}
+use Rattle.laws.specs.Put.{put}
 use Rattle.wire.specs.BigEndian.{bytesOf}
 use Rattle.sums.specs.Cap.{cap}
 use Rattle.entry.specs.Record.{recordsIn}
 use Rattle.refusal.specs.Refusal.{path-outside, short-output, too-large, not-proper}
-use Rattle.format.specs.Format.{headerSize}
+use Rattle.format.specs.Format.{headerSize, idSize}
 use Rattle.tree_write.specs.Tree.{treeBytes}
 use Rattle.proper.specs.Proper.{isProper}
 use Rattle.write.specs.declared.Options.{Options}
+use Rattle.write.specs.declared.Plan.{Plan}
+use Rattle.write.specs.declared.extension.Heads.{Heads}
 use Rattle.write.specs.declared.Answer.{Answer}
 use Rattle.write.specs.declared.Answer.the-variants.{Done, PathOutside, NotProper, TooLarge, ShortOutput}
-use Rattle.write.specs.Entries.{firstFault, onFirst, countOf, anyExtended, tableBytes}
+use Rattle.write_entries.specs.Entries.{firstFault, onFirst, countOf, anyExtended, tableBytes}
 
 -- ---- the parts
 
@@ -42,16 +46,32 @@ sparseSignature = 115 ∷ 100 ∷ 105 ∷ 114 ∷ []
 abbrev pub eoieSignature : List ℕ
 eoieSignature = 69 ∷ 79 ∷ 73 ∷ 69 ∷ []
 
--- TREE's signature and size, if it is written
-unfoldable pub treeHead : Bool → ℕ → List ℕ
-treeHead writes size = pick writes (extensionHead treeSignature size) []
+-- an extension: its signature and its body
+pub record Extension : Type 0 where
+  pub signature : List ℕ
+  pub body : List ℕ
 
-unfoldable pub sparsePart : Bool → List ℕ
-sparsePart sparse = pick sparse (extensionHead sparseSignature 0) []
+abbrev pub extension : List ℕ → List ℕ → Extension
+extension signature body = record { signature = signature; body = body }
 
--- the signatures and sizes of the extensions before EOIE
-unfoldable pub contents : Bool → ℕ → Bool → List ℕ
-contents writes size sparse = treeHead writes size ++ sparsePart sparse
+-- THE LIST of the extensions before EOIE, in the order in which they stand: TREE, of so many bytes, and `sdir`, each if it is written
+abbrev pub extensionsFor : Bool → List ℕ → Bool → List Extension
+extensionsFor writes tree sparse = pick writes (extension treeSignature tree ∷ []) [] ++ pick sparse (extension sparseSignature [] ∷ []) []
+
+-- their bytes
+unfoldable pub extensionsOf : List Extension → List ℕ
+extensionsOf [] = []
+extensionsOf (e ∷ es) = (extensionHead (e .signature) (length (e .body)) ++ e .body) ++ extensionsOf es
+
+-- how many these are
+unfoldable pub extensionsSize : List Extension → ℕ
+extensionsSize [] = 0
+extensionsSize (e ∷ es) = 8 + length (e .body) + extensionsSize es
+
+-- their signatures and sizes, which EOIE hashes
+unfoldable pub contents : List Extension → List ℕ
+contents [] = []
+contents (e ∷ es) = extensionHead (e .signature) (length (e .body)) ++ contents es
 
 -- EOIE: where the extensions start, and the hash of their signatures and sizes
 unfoldable pub eoiePart : ℕ → (List ℕ → List ℕ) → Bool → ℕ → List ℕ → List ℕ
@@ -66,13 +86,9 @@ trailerOf id hash skips before = pick skips (replicate id 0) (hash before)
 unfoldable pub frontOf : ℕ → List ℕ → List ℕ → ℕ → ℕ → List ℕ
 frontOf id rs ps version count = headerOf version count ++ tableBytes id rs ps
 
--- TREE and `sdir`
-unfoldable pub extensionsOf : Bool → List ℕ → Bool → List ℕ
-extensionsOf writes tree sparse = (treeHead writes (length tree) ++ tree) ++ sparsePart sparse
-
 -- the bytes before EOIE's place
-unfoldable pub bodyOf : ℕ → List ℕ → List ℕ → ℕ → ℕ → Bool → List ℕ → Bool → List ℕ
-bodyOf id rs ps version count writes tree sparse = frontOf id rs ps version count ++ extensionsOf writes tree sparse
+unfoldable pub bodyOf : ℕ → List ℕ → List ℕ → ℕ → ℕ → List Extension → List ℕ
+bodyOf id rs ps version count es = frontOf id rs ps version count ++ extensionsOf es
 
 -- where the extensions start
 abbrev pub offsetOf : ℕ → List ℕ → List ℕ → ℕ
@@ -114,24 +130,63 @@ treeOf id limit ns nm writes = pick writes (treeBytes id limit ns nm) []
 unfoldable pub treeFits : ℕ → List ℕ → List ℕ → Bool → Bool
 treeFits limit ns nm writes = pick writes (isProper limit ns nm) true
 
+-- the extensions before EOIE
+abbrev pub extensionsAsked : ℕ → ℕ → List ℕ → List ℕ → Options → List Extension
+extensionsAsked id limit ns nm o = extensionsFor (writesTree o) (treeBytes id limit ns nm) (o .sparse)
+
 unfoldable pub bodyBytes : ℕ → ℕ → List ℕ → List ℕ → List ℕ → List ℕ → Options → List ℕ
-bodyBytes id limit rs ps ns nm o = bodyOf id rs ps (versionOf rs) (countOf rs (recordsIn rs) 0) (writesTree o) (treeOf id limit ns nm (writesTree o)) (o .sparse)
+bodyBytes id limit rs ps ns nm o = bodyOf id rs ps (versionOf rs) (countOf rs (recordsIn rs) 0) (extensionsAsked id limit ns nm o)
 
 unfoldable pub fileBytes : ℕ → (List ℕ → List ℕ) → ℕ → List ℕ → List ℕ → List ℕ → List ℕ → Options → List ℕ
 fileBytes id hash limit rs ps ns nm o =
-    fileOf id hash
-    (closedOf id hash (bodyBytes id limit rs ps ns nm o) (hasEoie (recordsIn rs) o) (offsetOf id rs ps) (contents (writesTree o) (length (treeOf id limit ns nm (writesTree o))) (o .sparse)))
-    (o .unhashed)
+    fileOf id hash (closedOf id hash (bodyBytes id limit rs ps ns nm o) (hasEoie (recordsIn rs) o) (offsetOf id rs ps) (contents (extensionsAsked id limit ns nm o))) (o .unhashed)
+
+-- ---- part by part, as the code writes it
+
+-- bytes put at a place of a store, and where they end
+abbrev pub Puts : ℕ → List ℕ → List ℕ → ℕ → List ℕ → Type 0
+Puts end after before at bytes = (end ≡ at + length bytes) × (after ≡ put before at bytes)
+
+-- TREE's signature and size, and `sdir`, each if it is written
+unfoldable pub treeHead : Bool → ℕ → List ℕ
+treeHead writes size = pick writes (extensionHead treeSignature size) []
+
+unfoldable pub sparsePart : Bool → List ℕ
+sparsePart sparse = pick sparse (extensionHead sparseSignature 0) []
+
+-- the signatures and sizes of both
+unfoldable pub headsOf : Bool → ℕ → Bool → List ℕ
+headsOf writes size sparse = treeHead writes size ++ sparsePart sparse
+
+abbrev pub headsIn : Heads → List ℕ
+headsIn h = headsOf (h .tree) (h .size) (h .sparse)
+
+-- what is planned: the extensions, their bytes, all before EOIE's place, EOIE, and the whole file
+abbrev pub extensionsPlanned : ℕ → ℕ → List ℕ → List ℕ → Heads → List Extension
+extensionsPlanned id limit ns nm h = extensionsFor (h .tree) (treeBytes id limit ns nm) (h .sparse)
+
+abbrev pub extensionsIn : ℕ → ℕ → List ℕ → List ℕ → Heads → List ℕ
+extensionsIn id limit ns nm h = extensionsOf (extensionsPlanned id limit ns nm h)
+
+abbrev pub planBody : ℕ → ℕ → List ℕ → List ℕ → List ℕ → List ℕ → Plan → List ℕ
+planBody id limit rs ps ns nm p = bodyOf id rs ps (p .version) (p .count) (extensionsPlanned id limit ns nm (p .heads))
+
+abbrev pub eoieFor : ℕ → (List ℕ → List ℕ) → Plan → ℕ → List ℕ
+eoieFor id hash p offset = eoiePart id hash (p .eoie) offset (headsIn (p .heads))
+
+abbrev pub planFile : ℕ → (List ℕ → List ℕ) → ℕ → List ℕ → List ℕ → List ℕ → List ℕ → Plan → List ℕ
+planFile id hash limit rs ps ns nm p =
+    fileOf id hash (closedOf id hash (planBody id limit rs ps ns nm p) (p .eoie) (offsetOf id rs ps) (contents (extensionsPlanned id limit ns nm (p .heads)))) (p .unhashed)
 
 -- what the sizing pass finds where no record has a fault
 pub record Counted (rs ps : List ℕ) (version count size : ℕ) : Type 0 where
   pub versioned : version ≡ versionOf rs
   pub counted : count ≡ countOf rs (recordsIn rs) 0
-  pub sized : size ≡ cap (headerSize + length (tableBytes 20 rs ps))
+  pub sized : size ≡ cap (headerSize + length (tableBytes idSize rs ps))
 
 -- ---- the answer
 
--- 01's number of each answer, 0 where the file is written, and what it carries
+-- 01's number of an answer, 0 where the file is written, and what goes with it: version and size, or what a refusal carries
 abbrev pub numberOf : Answer → ℕ
 numberOf (Done version size) = 0
 numberOf (PathOutside index) = path-outside
@@ -139,12 +194,12 @@ numberOf NotProper = not-proper
 numberOf TooLarge = too-large
 numberOf (ShortOutput size) = short-output
 
-abbrev pub carriedBy : Answer → List ℕ
-carriedBy (Done version size) = version ∷ size ∷ []
-carriedBy (PathOutside index) = index ∷ []
-carriedBy NotProper = []
-carriedBy TooLarge = []
-carriedBy (ShortOutput size) = size ∷ []
+abbrev pub carriedOf : Answer → List ℕ
+carriedOf (Done version size) = version ∷ size ∷ []
+carriedOf (PathOutside index) = index ∷ []
+carriedOf NotProper = []
+carriedOf TooLarge = []
+carriedOf (ShortOutput size) = size ∷ []
 
 -- what writing comes to: the answer, and what the output holds
 pub record Outcome : Type 0 where
@@ -166,8 +221,11 @@ writeFile records version body file out =
     (pick (ltb (length out) (length file)) (outcome (ShortOutput (length file)) out)
     (outcome (Done version (length file)) (file ++ drop (length file) out))))
 
+abbrev pub writeTable : ℕ → (List ℕ → List ℕ) → ℕ → List ℕ → List ℕ → List ℕ → List ℕ → Options → List ℕ → Outcome
+writeTable id hash limit rs ps ns nm o out = writeFile (recordsIn rs) (versionOf rs) (bodyBytes id limit rs ps ns nm o) (fileBytes id hash limit rs ps ns nm o) out
+
 -- the first record with a fault, a table that is not proper, and then the file
 unfoldable pub writeAll : ℕ → (List ℕ → List ℕ) → ℕ → List ℕ → List ℕ → List ℕ → List ℕ → Options → List ℕ → Outcome
 writeAll id hash limit rs ps ns nm o out =
     onFirst (firstFault rs ps (recordsIn rs) 0) (λ i. outcome (PathOutside i) out)
-    (pick (treeFits limit ns nm (writesTree o)) (writeFile (recordsIn rs) (versionOf rs) (bodyBytes id limit rs ps ns nm o) (fileBytes id hash limit rs ps ns nm o) out) (outcome NotProper out))
+    (pick (treeFits limit ns nm (writesTree o)) (writeTable id hash limit rs ps ns nm o out) (outcome NotProper out))

@@ -1,5 +1,4 @@
--- The modules of write that contracts and proofs cite: the entries, how long they are, the hash's length, the whole file, and its parts. Assumes nothing.
-pub mod Entries
-pub mod Size
+-- The modules of write that contracts and proofs cite: the whole file, its parts, and the laws of the list of extensions. Assumes nothing.
 pub mod File
 pub mod Parts
+pub mod Extensions

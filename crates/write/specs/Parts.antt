@@ -6,26 +6,27 @@ use mathlib.Core.List.{List, [], _∷_, _++_, append-assoc}
 use native.Mathlib.Omega.{arith}
 use lib.ListN.{length, length-append, length-replicate}
 use Rattle.wire.specs.BigEndian.{bytesOf, length-bytes}
+use Rattle.format.specs.Format.{idSize}
 use Rattle.sha1.specs.Sha1.{sha1}
 use Rattle.entry.specs.Record.{recordsIn}
 use Rattle.write.specs.declared.Options.{Options}
 use Rattle.sha1.specs.Length.{length-sha1}
-use Rattle.write.specs.Entries.{countOf, tableBytes}
-use Rattle.write.specs.File.{headerOf, versionOf, extensionHead, treeSignature, sparseSignature, eoieSignature, treeHead, sparsePart, contents, eoiePart, trailerOf, frontOf, extensionsOf, bodyOf, offsetOf, closedOf, fileOf, headSize, writesTree, hasEoie, treeOf, bodyBytes, fileBytes}
+use Rattle.write_entries.specs.Entries.{countOf, tableBytes}
+use Rattle.write.specs.File.{headerOf, versionOf, extensionHead, treeSignature, sparseSignature, eoieSignature, treeHead, sparsePart, contents, eoiePart, trailerOf, frontOf, extensionsOf, bodyOf, offsetOf, closedOf, fileOf, headSize, hasEoie, extensionsAsked, bodyBytes, fileBytes}
 
 -- all but the trailer is header, entries, extensions and EOIE; `eoie` is the last part, whatever it holds
 pub closed-parts : (id limit : ℕ) (rs ps ns nm : List ℕ) (o : Options) (eoie : List ℕ)
     → bodyBytes id limit rs ps ns nm o ++ eoie
-    ≡ headerOf (versionOf rs) (countOf rs (recordsIn rs) 0) ++ (tableBytes id rs ps ++ (extensionsOf (writesTree o) (treeOf id limit ns nm (writesTree o)) (o .sparse) ++ eoie))
+    ≡ headerOf (versionOf rs) (countOf rs (recordsIn rs) 0) ++ (tableBytes id rs ps ++ (extensionsOf (extensionsAsked id limit ns nm o) ++ eoie))
 unfolding bodyBytes bodyOf frontOf
 closed-parts id limit rs ps ns nm o eoie = simp append-assoc
 
 -- the whole file is that and the trailer over it
 pub file-parts : (id : ℕ) (hash : List ℕ → List ℕ) (limit : ℕ) (rs ps ns nm : List ℕ) (o : Options)
     → fileBytes id hash limit rs ps ns nm o
-    ≡ (bodyBytes id limit rs ps ns nm o ++ eoiePart id hash (hasEoie (recordsIn rs) o) (offsetOf id rs ps) (contents (writesTree o) (length (treeOf id limit ns nm (writesTree o))) (o .sparse)))
+    ≡ (bodyBytes id limit rs ps ns nm o ++ eoiePart id hash (hasEoie (recordsIn rs) o) (offsetOf id rs ps) (contents (extensionsAsked id limit ns nm o)))
     ++ trailerOf id hash (o .unhashed)
-    (bodyBytes id limit rs ps ns nm o ++ eoiePart id hash (hasEoie (recordsIn rs) o) (offsetOf id rs ps) (contents (writesTree o) (length (treeOf id limit ns nm (writesTree o))) (o .sparse)))
+    (bodyBytes id limit rs ps ns nm o ++ eoiePart id hash (hasEoie (recordsIn rs) o) (offsetOf id rs ps) (contents (extensionsAsked id limit ns nm o)))
 unfolding fileBytes fileOf closedOf
 file-parts id hash limit rs ps ns nm o = refl
 
@@ -51,13 +52,13 @@ length-sparse true = length-head sparseSignature 0 refl
 length-sparse false = refl
 
 module _ (has : Bool) (offset : ℕ) (toc : List ℕ) where
-  pub length-eoie : has ≡ true → length (eoiePart 20 sha1 has offset toc) ≡ 32
+  pub length-eoie : has ≡ true → length (eoiePart idSize sha1 has offset toc) ≡ 32
   unfolding eoiePart
   length-eoie h =
       rw h
       (omega (arith, length-append (extensionHead eoieSignature 24 ++ bytesOf 4 offset) (sha1 toc), length-append (extensionHead eoieSignature 24) (bytesOf 4 offset), length-head eoieSignature 24 refl, length-bytes 4 offset, length-sha1 toc))
 
-pub length-trailer : (skips : Bool) (x : List ℕ) → length (trailerOf 20 sha1 skips x) ≡ 20
+pub length-trailer : (skips : Bool) (x : List ℕ) → length (trailerOf idSize sha1 skips x) ≡ idSize
 unfolding trailerOf
-length-trailer true x = length-replicate {A = ℕ} 20 0
+length-trailer true x = length-replicate {A = ℕ} idSize 0
 length-trailer false x = length-sha1 x

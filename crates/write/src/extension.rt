@@ -3,8 +3,16 @@ ghost use mathlib.Core.Path.{_≡_};
 ghost use Prim.Native.Nat.{_+_, _≤_};
 ghost use lib.ListN.{length, take};
 ghost use Rattle.laws.specs.Put.{put};
+ghost use Rattle.format.specs.Format.{idSize};
 ghost use Rattle.sha1.specs.Sha1.{sha1};
-ghost use Rattle.write.specs.File.{extensionHead, treeHead, sparsePart, contents, eoiePart, trailerOf};
+ghost use Rattle.write.specs.File.{extensionHead, treeHead, sparsePart, headsIn, eoiePart, trailerOf, Puts};
+
+// What the heads of the extensions before EOIE say: whether TREE is written, how many bytes its body has, and whether `sdir` is written.
+pub struct Heads {
+    pub tree: bool,
+    pub size: u32,
+    pub sparse: bool,
+}
 
 // What EOIE holds: an offset and a hash.
 const EOIE_SIZE: u32 = 24;
@@ -23,7 +31,7 @@ pub fn put_head(signature: [u8; 4], size: u32, out: &mut [u8], at: usize) -> usi
 // Writes `sdir` if the index is sparse.
 pub fn put_sparse(sparse: bool, out: &mut [u8], at: usize) -> usize
     requires { ⌜ at + length (sparsePart sparse) ≤ length (now out) ⌝ }
-    ensures { λ r. ⌜ (r ≡ at + length (sparsePart sparse)) × (now (out .exit) ≡ put (now (out .entry)) at (sparsePart sparse)) ⌝ }
+    ensures { λ r. ⌜ Puts r (now (out .exit)) (now (out .entry)) at (sparsePart sparse) ⌝ }
 {
     if sparse {
         return put_head(*b"sdir", 0, out, at);
@@ -34,7 +42,7 @@ pub fn put_sparse(sparse: bool, out: &mut [u8], at: usize) -> usize
 // Writes TREE's signature and size, if TREE is written.
 pub fn put_tree_head(writes: bool, size: u32, out: &mut [u8], at: usize) -> usize
     requires { ⌜ at + length (treeHead writes size) ≤ length (now out) ⌝ }
-    ensures { λ r. ⌜ (r ≡ at + length (treeHead writes size)) × (now (out .exit) ≡ put (now (out .entry)) at (treeHead writes size)) ⌝ }
+    ensures { λ r. ⌜ Puts r (now (out .exit)) (now (out .entry)) at (treeHead writes size) ⌝ }
 {
     if writes {
         return put_head(*b"TREE", size, out, at);
@@ -43,30 +51,22 @@ pub fn put_tree_head(writes: bool, size: u32, out: &mut [u8], at: usize) -> usiz
 }
 
 // The hash of the signatures and sizes of the extensions before EOIE.
-fn contents_hash(writes: bool, size: u32, sparse: bool) -> [u8; 20]
-    ensures { λ r. ⌜ r ≡ sha1 (contents writes size sparse) ⌝ }
+fn contents_hash(h: Heads) -> [u8; 20]
+    ensures { λ r. ⌜ r ≡ sha1 (headsIn h) ⌝ }
 {
     let mut toc = [0u8; 16];
-    let middle = put_tree_head(writes, size, &mut toc, 0);
-    let end = put_sparse(sparse, &mut toc, middle);
+    let middle = put_tree_head(h.tree, h.size, &mut toc, 0);
+    let end = put_sparse(h.sparse, &mut toc, middle);
     sha1::sha1_of(&toc[..end])
 }
 
 // Writes EOIE, if it is written: where the extensions start, and the hash of their signatures and sizes.
-pub fn put_eoie(
-    has: bool,
-    offset: u32,
-    writes: bool,
-    size: u32,
-    sparse: bool,
-    out: &mut [u8],
-    at: usize,
-) -> usize
-    requires { ⌜ at + length (eoiePart 20 sha1 has offset (contents writes size sparse)) ≤ length (now out) ⌝ }
-    ensures { λ r. ⌜ (r ≡ at + length (eoiePart 20 sha1 has offset (contents writes size sparse))) × (now (out .exit) ≡ put (now (out .entry)) at (eoiePart 20 sha1 has offset (contents writes size sparse))) ⌝ }
+pub fn put_eoie(has: bool, offset: u32, h: Heads, out: &mut [u8], at: usize) -> usize
+    requires { ⌜ at + length (eoiePart idSize sha1 has offset (headsIn h)) ≤ length (now out) ⌝ }
+    ensures { λ r. ⌜ Puts r (now (out .exit)) (now (out .entry)) at (eoiePart idSize sha1 has offset (headsIn h)) ⌝ }
 {
     if has {
-        let hash = contents_hash(writes, size, sparse);
+        let hash = contents_hash(h);
         let body = put_head(*b"EOIE", EOIE_SIZE, out, at);
         let last = body + 4;
         wire::put32(out, body, offset);
@@ -78,8 +78,8 @@ pub fn put_eoie(
 
 // Writes the trailer behind the bytes before `at`: their hash, or zeros.
 pub fn put_trailer(skips: bool, out: &mut [u8], at: usize)
-    requires { ⌜ at + 20 ≤ length (now out) ⌝ }
-    ensures { λ _. ⌜ now (out .exit) ≡ put (now (out .entry)) at (trailerOf 20 sha1 skips (take at (now (out .entry)))) ⌝ }
+    requires { ⌜ at + idSize ≤ length (now out) ⌝ }
+    ensures { λ _. ⌜ now (out .exit) ≡ put (now (out .entry)) at (trailerOf idSize sha1 skips (take at (now (out .entry)))) ⌝ }
 {
     if skips {
         slices::clear(out, at, format::ID_SIZE);

@@ -4,12 +4,12 @@ ghost use Prim.Native.Nat.{_+_, _≤_};
 ghost use lib.ListN.{length, take};
 ghost use Rattle.laws.specs.Put.{put};
 ghost use Rattle.sums.specs.Cap.{cap};
+ghost use Rattle.format.specs.Format.{depthLimit, idSize};
 ghost use Rattle.sha1.specs.Sha1.{sha1};
-ghost use Rattle.entry.specs.Record.{recordsIn};
-ghost use Rattle.write.specs.File.{headerOf, versionOf, contents, frontOf, extensionsOf, bodyOf, offsetOf, closedOf, fileOf, endOf, headSize, endSize, most, eoiePart, treeOf, treeFits, writesTree, hasEoie, bodyBytes, fileBytes, Counted, outcome, writeFile, writeAll};
-use entries::Sized;
+ghost use Rattle.write.specs.File.{headerOf, frontOf, extensionsIn, planBody, planFile, eoieFor, offsetOf, endOf, headSize, endSize, most, treeOf, treeFits, writesTree, hasEoie, Puts, Counted, outcome, writeTable, writeAll};
+use extension::Heads;
+use write_entries::Sized;
 
-mod entries;
 mod extension;
 
 // The most records, and the most bytes before EOIE's place.
@@ -26,6 +26,23 @@ pub struct Options {
     // the index is sparse, which `sdir` marks
     pub sparse: bool,
     // 20 zeros stand in the place of the hash
+    pub unhashed: bool,
+}
+
+// What sizing the entries came to: the version, how many are written, and how many bytes they have with the header.
+pub struct Totals {
+    pub version: u32,
+    pub count: usize,
+    pub size: usize,
+}
+
+// What is known of a file when it is filled: its version, how many entries it has, the extensions before EOIE, whether EOIE is written, and whether zeros stand in
+// the place of the hash.
+pub struct Plan {
+    pub version: u32,
+    pub count: u32,
+    pub heads: Heads,
+    pub eoie: bool,
     pub unhashed: bool,
 }
 
@@ -64,7 +81,7 @@ fn has_eoie(o: Options, records: usize, writes: bool) -> bool
 }
 
 fn tree_fits(nodes: &[u8], names: &[u8], writes: bool) -> bool
-    ensures { λ r. ⌜ r ≡ treeFits 64 (now (nodes .entry)) (now (names .entry)) writes ⌝ }
+    ensures { λ r. ⌜ r ≡ treeFits depthLimit (now (nodes .entry)) (now (names .entry)) writes ⌝ }
 {
     if writes {
         return proper::is_proper(nodes, names);
@@ -74,7 +91,7 @@ fn tree_fits(nodes: &[u8], names: &[u8], writes: bool) -> bool
 
 // How many bytes the tree has, none where TREE is not written.
 fn tree_length(nodes: &[u8], names: &[u8], writes: bool) -> usize
-    ensures { λ r. ⌜ r ≡ cap (length (treeOf 20 64 (now (nodes .entry)) (now (names .entry)) writes)) ⌝ }
+    ensures { λ r. ⌜ r ≡ cap (length (treeOf idSize depthLimit (now (nodes .entry)) (now (names .entry)) writes)) ⌝ }
 {
     if writes {
         return tree_write::tree_size(nodes, names);
@@ -84,9 +101,9 @@ fn tree_length(nodes: &[u8], names: &[u8], writes: bool) -> usize
 
 // Writes the tree, of so many bytes, and answers where it ends.
 fn put_tree(nodes: &[u8], names: &[u8], writes: bool, tree: u32, out: &mut [u8], at: usize) -> usize
-    requires { ⌜ tree ≡ length (treeOf 20 64 (now nodes) (now names) writes) ⌝ }
-    requires { ⌜ at + length (treeOf 20 64 (now nodes) (now names) writes) ≤ length (now out) ⌝ }
-    ensures { λ r. ⌜ (r ≡ at + length (treeOf 20 64 (now (nodes .entry)) (now (names .entry)) writes)) × (now (out .exit) ≡ put (now (out .entry)) at (treeOf 20 64 (now (nodes .entry)) (now (names .entry)) writes)) ⌝ }
+    requires { ⌜ tree ≡ length (treeOf idSize depthLimit (now nodes) (now names) writes) ⌝ }
+    requires { ⌜ at + length (treeOf idSize depthLimit (now nodes) (now names) writes) ≤ length (now out) ⌝ }
+    ensures { λ r. ⌜ Puts r (now (out .exit)) (now (out .entry)) at (treeOf idSize depthLimit (now (nodes .entry)) (now (names .entry)) writes) ⌝ }
 {
     let end = at + tree as usize;
     if writes {
@@ -108,74 +125,46 @@ fn put_header(version: u32, count: u32, out: &mut [u8])
 
 // Writes header and entries, and answers where they end.
 fn fill_front(records: &[u8], paths: &[u8], version: u32, count: u32, out: &mut [u8]) -> usize
-    requires { ⌜ length (frontOf 20 (now records) (now paths) version count) ≤ length (now out) ⌝ }
-    ensures { λ r. ⌜ (r ≡ offsetOf 20 (now (records .entry)) (now (paths .entry))) × (now (out .exit) ≡ put (now (out .entry)) 0 (frontOf 20 (now (records .entry)) (now (paths .entry)) version count)) ⌝ }
+    requires { ⌜ length (frontOf idSize (now records) (now paths) version count) ≤ length (now out) ⌝ }
+    ensures { λ r. ⌜ r ≡ offsetOf idSize (now (records .entry)) (now (paths .entry)) ⌝ }
+    ensures { λ _. ⌜ now (out .exit) ≡ put (now (out .entry)) 0 (frontOf idSize (now (records .entry)) (now (paths .entry)) version count) ⌝ }
 {
     put_header(version, count, out);
-    entries::put_entries(records, paths, out, format::HEADER_SIZE)
+    write_entries::put_entries(records, paths, out, format::HEADER_SIZE)
 }
 
 // Writes TREE and `sdir` at `at`, and answers where they end.
-fn fill_extensions(
-    nodes: &[u8],
-    names: &[u8],
-    writes: bool,
-    tree: u32,
-    sparse: bool,
-    out: &mut [u8],
-    at: usize,
-) -> usize
-    requires { ⌜ tree ≡ length (treeOf 20 64 (now nodes) (now names) writes) ⌝ }
-    requires { ⌜ at + length (extensionsOf writes (treeOf 20 64 (now nodes) (now names) writes) sparse) ≤ length (now out) ⌝ }
-    ensures { λ r. ⌜ (r ≡ at + length (extensionsOf writes (treeOf 20 64 (now (nodes .entry)) (now (names .entry)) writes) sparse)) × (now (out .exit) ≡ put (now (out .entry)) at (extensionsOf writes (treeOf 20 64 (now (nodes .entry)) (now (names .entry)) writes) sparse)) ⌝ }
+fn fill_extensions(nodes: &[u8], names: &[u8], h: Heads, out: &mut [u8], at: usize) -> usize
+    requires { ⌜ h .size ≡ length (treeOf idSize depthLimit (now nodes) (now names) (h .tree)) ⌝ }
+    requires { ⌜ at + length (extensionsIn idSize depthLimit (now nodes) (now names) h) ≤ length (now out) ⌝ }
+    ensures { λ r. ⌜ Puts r (now (out .exit)) (now (out .entry)) at (extensionsIn idSize depthLimit (now (nodes .entry)) (now (names .entry)) h) ⌝ }
 {
-    let body = extension::put_tree_head(writes, tree, out, at);
-    let end = put_tree(nodes, names, writes, tree, out, body);
-    extension::put_sparse(sparse, out, end)
+    let writes = h.tree;
+    let size = h.size;
+    let body = extension::put_tree_head(writes, size, out, at);
+    let end = put_tree(nodes, names, writes, size, out, body);
+    extension::put_sparse(h.sparse, out, end)
 }
 
 // Writes EOIE and the trailer behind the bytes before `at`.
-fn fill_end(
-    has: bool,
-    offset: u32,
-    writes: bool,
-    tree: u32,
-    sparse: bool,
-    skips: bool,
-    out: &mut [u8],
-    at: usize,
-)
-    requires { ⌜ at + (length (eoiePart 20 sha1 has offset (contents writes tree sparse)) + 20) ≤ length (now out) ⌝ }
-    ensures { λ _. ⌜ now (out .exit) ≡ put (now (out .entry)) at (endOf 20 sha1 skips (take at (now (out .entry))) (eoiePart 20 sha1 has offset (contents writes tree sparse))) ⌝ }
+fn fill_end(p: Plan, offset: u32, out: &mut [u8], at: usize)
+    requires { ⌜ at + (length (eoieFor idSize sha1 p offset) + idSize) ≤ length (now out) ⌝ }
+    ensures { λ _. ⌜ now (out .exit) ≡ put (now (out .entry)) at (endOf idSize sha1 (p .unhashed) (take at (now (out .entry))) (eoieFor idSize sha1 p offset)) ⌝ }
 {
-    let end = extension::put_eoie(has, offset, writes, tree, sparse, out, at);
-    extension::put_trailer(skips, out, end);
+    let end = extension::put_eoie(p.eoie, offset, p.heads, out, at);
+    extension::put_trailer(p.unhashed, out, end);
 }
 
 // Writes the whole file.
-fn fill(
-    records: &[u8],
-    paths: &[u8],
-    nodes: &[u8],
-    names: &[u8],
-    o: Options,
-    version: u32,
-    count: u32,
-    writes: bool,
-    tree: u32,
-    has: bool,
-    out: &mut [u8],
-)
-    requires { ⌜ tree ≡ length (treeOf 20 64 (now nodes) (now names) writes) ⌝ }
-    requires { ⌜ offsetOf 20 (now records) (now paths) ≤ most ⌝ }
-    requires { ⌜ length (bodyOf 20 (now records) (now paths) version count writes (treeOf 20 64 (now nodes) (now names) writes) (o .sparse)) + endSize 20 has ≤ length (now out) ⌝ }
-    ensures { λ _. ⌜ now (out .exit) ≡ put (now (out .entry)) 0 (fileOf 20 sha1 (closedOf 20 sha1 (bodyOf 20 (now (records .entry)) (now (paths .entry)) version count writes (treeOf 20 64 (now (nodes .entry)) (now (names .entry)) writes) (o .sparse)) has (offsetOf 20 (now (records .entry)) (now (paths .entry))) (contents writes tree (o .sparse))) (o .unhashed)) ⌝ }
+fn fill(records: &[u8], paths: &[u8], nodes: &[u8], names: &[u8], p: Plan, out: &mut [u8])
+    requires { ⌜ p .heads .size ≡ length (treeOf idSize depthLimit (now nodes) (now names) (p .heads .tree)) ⌝ }
+    requires { ⌜ offsetOf idSize (now records) (now paths) ≤ most ⌝ }
+    requires { ⌜ length (planBody idSize depthLimit (now records) (now paths) (now nodes) (now names) p) + endSize idSize (p .eoie) ≤ length (now out) ⌝ }
+    ensures { λ _. ⌜ now (out .exit) ≡ put (now (out .entry)) 0 (planFile idSize sha1 depthLimit (now (records .entry)) (now (paths .entry)) (now (nodes .entry)) (now (names .entry)) p) ⌝ }
 {
-    let sparse = o.sparse;
-    let skips = o.unhashed;
-    let offset = fill_front(records, paths, version, count, out);
-    let end = fill_extensions(nodes, names, writes, tree, sparse, out, offset);
-    fill_end(has, offset as u32, writes, tree, sparse, skips, out, end);
+    let offset = fill_front(records, paths, p.version, p.count, out);
+    let end = fill_extensions(nodes, names, p.heads, out, offset);
+    fill_end(p, offset as u32, out, end);
 }
 
 // How many bytes an extension's head has, none where it is not written.
@@ -190,7 +179,7 @@ fn head_size(there: bool) -> usize
 
 // How many bytes EOIE, if it is written, and the trailer have.
 fn end_size(has: bool) -> usize
-    ensures { λ r. ⌜ r ≡ endSize 20 has ⌝ }
+    ensures { λ r. ⌜ r ≡ endSize idSize has ⌝ }
 {
     if has {
         return 52;
@@ -204,9 +193,9 @@ fn body_size(front: usize, writes: bool, tree: usize, sparse: bool) -> usize
 {
     let head = head_size(writes);
     let last = head_size(sparse);
-    let headed = sums::plus(front, head);
-    let treed = sums::plus(headed, tree);
-    sums::plus(treed, last)
+    let headed = sums::saturating_add(front, head);
+    let treed = sums::saturating_add(headed, tree);
+    sums::saturating_add(treed, last)
 }
 
 // Writes a table that was sized and whose tree may be written: refuses what is too large or does not fit, and fills the output.
@@ -216,43 +205,41 @@ fn write_sized(
     nodes: &[u8],
     names: &[u8],
     o: Options,
-    writes: bool,
-    version: u32,
-    count: usize,
-    size: usize,
+    t: Totals,
     out: &mut [u8],
 ) -> Answer
-    requires { ⌜ writes ≡ writesTree o ⌝ }
-    requires { ⌜ Counted (now records) (now paths) version count size ⌝ }
-    ensures { λ r. ⌜ outcome r (now (out .exit)) ≡ writeFile (recordsIn (now (records .entry))) (versionOf (now (records .entry))) (bodyBytes 20 64 (now (records .entry)) (now (paths .entry)) (now (nodes .entry)) (now (names .entry)) o) (fileBytes 20 sha1 64 (now (records .entry)) (now (paths .entry)) (now (nodes .entry)) (now (names .entry)) o) (now (out .entry)) ⌝ }
+    requires { ⌜ Counted (now records) (now paths) (t .version) (t .count) (t .size) ⌝ }
+    ensures { λ r. ⌜ outcome r (now (out .exit)) ≡ writeTable idSize sha1 depthLimit (now (records .entry)) (now (paths .entry)) (now (nodes .entry)) (now (names .entry)) o (now (out .entry)) ⌝ }
 {
     let n = entry::records_in(records);
+    let writes = writes_tree(o);
     let tree = tree_length(nodes, names, writes);
-    let body = body_size(size, writes, tree, o.sparse);
+    let body = body_size(t.size, writes, tree, o.sparse);
     if MOST < n {
         return Answer::TooLarge;
     }
     if MOST < body {
         return Answer::TooLarge;
     }
+    let version = t.version;
     let has = has_eoie(o, n, writes);
     let whole = body + end_size(has);
     if out.len() < whole {
         return Answer::ShortOutput { size: whole };
     }
-    fill(
-        records,
-        paths,
-        nodes,
-        names,
-        o,
+    let heads = Heads {
+        tree: writes,
+        size: tree as u32,
+        sparse: o.sparse,
+    };
+    let plan = Plan {
         version,
-        count as u32,
-        writes,
-        tree as u32,
-        has,
-        out,
-    );
+        count: t.count as u32,
+        heads,
+        eoie: has,
+        unhashed: o.unhashed,
+    };
+    fill(records, paths, nodes, names, plan, out);
     Answer::Done {
         version,
         size: whole,
@@ -268,9 +255,9 @@ pub fn write_to(
     o: Options,
     out: &mut [u8],
 ) -> Answer
-    ensures { λ r. ⌜ outcome r (now (out .exit)) ≡ writeAll 20 sha1 64 (now (records .entry)) (now (paths .entry)) (now (nodes .entry)) (now (names .entry)) o (now (out .entry)) ⌝ }
+    ensures { λ r. ⌜ outcome r (now (out .exit)) ≡ writeAll idSize sha1 depthLimit (now (records .entry)) (now (paths .entry)) (now (nodes .entry)) (now (names .entry)) o (now (out .entry)) ⌝ }
 {
-    let s = entries::size_entries(records, paths);
+    let s = write_entries::size_entries(records, paths);
     match s {
         Sized::Outside { index } => Answer::PathOutside { index },
         Sized::Of {
@@ -280,18 +267,12 @@ pub fn write_to(
         } => {
             let writes = writes_tree(o);
             if tree_fits(nodes, names, writes) {
-                return write_sized(
-                    records,
-                    paths,
-                    nodes,
-                    names,
-                    o,
-                    writes,
+                let t = Totals {
                     version,
                     count,
                     size,
-                    out,
-                );
+                };
+                return write_sized(records, paths, nodes, names, o, t, out);
             }
             Answer::NotProper
         }

@@ -1,5 +1,5 @@
 // Reads index files that git made and writes each back, with TREE only and the hash. Its arguments name them two by two: a file, and what the Rust wrote of it. What
-// it prints must be what tests/make-written, which made the files, says of the Rust's.
+// it prints must be what tests/make/write_back, which made the files, says of the Rust's.
 ghost use Rattle.io.specs.Counts.{Counts};
 use file::Answer as Got;
 use libc::STDOUT_FILENO;
@@ -65,6 +65,14 @@ fn show_bytes(written: &[u8], rust: &[u8]) {
     text(&show::hex_line(sha1::sha1_of(written)));
 }
 
+// The line of a refusal.
+fn show_refused(number: u32, carries: bool, value: usize) {
+    let mut out = [0u8; 64];
+    let size = lines::write_refused(number, carries, value as u64, &mut out);
+    text(b": ");
+    text(first(&out, size));
+}
+
 fn show_answer(a: Answer, out: &[u8], rust: &[u8]) {
     match a {
         Answer::Done { version, size } => {
@@ -72,10 +80,10 @@ fn show_answer(a: Answer, out: &[u8], rust: &[u8]) {
             number(b" size ", size as u64);
             show_bytes(first(out, size), rust);
         }
-        Answer::PathOutside { index: _ } => text(b": refused 12\n"),
-        Answer::NotProper => text(b": refused 16\n"),
-        Answer::TooLarge => text(b": refused 15\n"),
-        Answer::ShortOutput { size: _ } => text(b": refused 14\n"),
+        Answer::PathOutside { index } => show_refused(refusal::PATH_OUTSIDE, true, index),
+        Answer::NotProper => show_refused(refusal::NOT_PROPER, false, 0),
+        Answer::TooLarge => show_refused(refusal::TOO_LARGE, false, 0),
+        Answer::ShortOutput { size } => show_refused(refusal::SHORT_OUTPUT, true, size),
     }
 }
 

@@ -11,14 +11,10 @@ use write::Options;
 // Names of the nodes, and their ids: "a" at 0, "b" at 1, a name with NUL from 19 to 22.
 const NAMES: [u8; 22] = *b"abcdefghijklmnopqrst\0x";
 
-fn wide(x: u8) -> u64 {
-    x as u64
-}
-
 fn show_hex(s: &[u8]) {
     let mut i: usize = 0;
     while i < s.len() {
-        io::print_hex(STDOUT_FILENO, wide(s[i]), 2);
+        io::write_all(STDOUT_FILENO, &show::hex_byte(s[i]));
         i += 1;
     }
 }
@@ -34,30 +30,29 @@ fn show_number(x: u64) {
     io::print_decimal(STDOUT_FILENO, x);
 }
 
-// Version and size, or the number of a refusal and what it carries.
+// The line of a refusal.
+fn show_refused(number: u32, carries: bool, value: usize) {
+    let mut out = [0u8; 64];
+    let size = lines::write_refused(number, carries, value as u64, &mut out);
+    if size <= 64 {
+        io::write_all(STDOUT_FILENO, &out[..size]);
+    }
+}
+
+// Version and size, or the line of a refusal.
 fn show_answer(a: Answer) {
     match a {
         Answer::Done { version, size } => {
             io::write_all(STDOUT_FILENO, b"written");
             show_number(version as u64);
             show_number(size as u64);
+            io::write_all(STDOUT_FILENO, b"\n");
         }
-        Answer::PathOutside { index } => {
-            io::write_all(STDOUT_FILENO, b"refused 12");
-            show_number(index as u64);
-        }
-        Answer::NotProper => {
-            io::write_all(STDOUT_FILENO, b"refused 16");
-        }
-        Answer::TooLarge => {
-            io::write_all(STDOUT_FILENO, b"refused 15");
-        }
-        Answer::ShortOutput { size } => {
-            io::write_all(STDOUT_FILENO, b"refused 14");
-            show_number(size as u64);
-        }
+        Answer::PathOutside { index } => show_refused(refusal::PATH_OUTSIDE, true, index),
+        Answer::NotProper => show_refused(refusal::NOT_PROPER, false, 0),
+        Answer::TooLarge => show_refused(refusal::TOO_LARGE, false, 0),
+        Answer::ShortOutput { size } => show_refused(refusal::SHORT_OUTPUT, true, size),
     }
-    io::write_all(STDOUT_FILENO, b"\n");
 }
 
 // TREE and the hash are asked for, and nothing else.

@@ -182,7 +182,7 @@ pub fn entry(path: &[u8]) -> Vec<u8> {
     bytes
 }
 
-/// An entry of version 4: how much of the path before goes, in less than 128, and what follows the rest.
+/// An entry of version 4: how much of the previous path is dropped, below 128, and what follows the rest.
 pub fn entry4(strip: u8, suffix: &[u8]) -> Vec<u8> {
     [fixed(0).as_slice(), &[strip], suffix, b"\0"].concat()
 }

@@ -1,5 +1,5 @@
 -- `access::lookup` meets its contract. Assumes nothing.
-use Rattle.access.specs.Laws.{laws}
+use Rattle.access.proofs.Laws.{laws}
 use borrow.Author.Needs.{needs}
 use Rattle.access.proofs.lookup.Statement.{statement}
 use Rattle.access.proofs.lookup.Tie as tie

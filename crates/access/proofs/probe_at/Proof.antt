@@ -1,5 +1,5 @@
 -- `access::probe_at` meets its contract. Assumes nothing.
-use Rattle.access.specs.Laws.{laws}
+use Rattle.access.proofs.Laws.{laws}
 use borrow.Author.Needs.{needs}
 use Rattle.access.proofs.probe_at.Statement.{statement}
 use Rattle.access.proofs.probe_at.Tie as tie
@@ -13,14 +13,8 @@ path-of-requires c κs = search needs
 stage-at-requires : tie.Need-stage-at-requires
 stage-at-requires c κs = search needs
 
-compare-requires : tie.Need-compare-requires
-compare-requires c κs = search needs
-
-compare-stages-requires : tie.Need-compare-stages-requires
-compare-stages-requires c κs = search needs
-
-then-requires : tie.Need-then-requires
-then-requires c κs = search needs
+placed-requires : tie.Need-placed-requires
+placed-requires c κs = search needs
 
 returns : tie.Need-returns
 returns c = search (laws, needs)
@@ -35,8 +29,6 @@ probe-at-spec =
     lies-inside-requires
     path-of-requires
     stage-at-requires
-    compare-requires
-    compare-stages-requires
-    then-requires
+    placed-requires
     returns
     returns-2)

@@ -1,5 +1,5 @@
 -- `access::search` meets its contract. Assumes nothing.
-use Rattle.access.specs.Laws.{laws}
+use Rattle.access.proofs.Laws.{laws}
 use mathlib.Core.Path.{_≡_}
 use Prim.Native.Nat.{_+_, _-_, _≤_}
 use Rattle.entry.specs.Record.{recordsIn}

@@ -1,5 +1,5 @@
 -- `entry::field32` meets its contract. Assumes nothing.
-use Rattle.entry.specs.Laws.{laws}
+use Rattle.entry.proofs.Laws.{laws}
 use borrow.Author.Needs.{needs}
 use Rattle.entry.proofs.field32.Statement.{statement}
 use Rattle.entry.proofs.field32.Tie as tie

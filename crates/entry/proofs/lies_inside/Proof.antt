@@ -1,5 +1,5 @@
 -- `entry::lies_inside` meets its contract. Assumes nothing.
-use Rattle.entry.specs.Laws.{laws}
+use Rattle.entry.proofs.Laws.{laws}
 use borrow.Author.Needs.{needs}
 use Rattle.entry.proofs.lies_inside.Statement.{statement}
 use Rattle.entry.proofs.lies_inside.Tie as tie

@@ -1,5 +1,5 @@
 -- `entry::put_front` meets its contract. Assumes nothing.
-use Rattle.entry.specs.Laws.{laws}
+use Rattle.entry.proofs.Laws.{laws}
 use borrow.Author.Needs.{needs}
 use Rattle.entry.proofs.put_front.Statement.{statement}
 use Rattle.entry.proofs.put_front.Tie as tie

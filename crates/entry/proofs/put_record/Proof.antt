@@ -1,5 +1,5 @@
 -- `entry::put_record` meets its contract. Assumes nothing.
-use Rattle.entry.specs.Laws.{laws}
+use Rattle.entry.proofs.Laws.{laws}
 use borrow.Author.Needs.{needs}
 use Rattle.entry.proofs.put_record.Statement.{statement}
 use Rattle.entry.proofs.put_record.Tie as tie

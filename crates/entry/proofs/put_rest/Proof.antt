@@ -1,5 +1,5 @@
 -- `entry::put_rest` meets its contract. Five pastes side by side are one. Assumes nothing.
-use Rattle.entry.specs.Laws.{rest-put}
+use Rattle.entry.proofs.Laws.{rest-put}
 use borrow.Author.Needs.{needs}
 use Rattle.entry.proofs.put_rest.Statement.{statement}
 use Rattle.entry.proofs.put_rest.Tie as tie

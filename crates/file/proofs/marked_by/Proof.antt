@@ -1,6 +1,6 @@
 -- `file::marked_by` meets its contract. Assumes nothing.
 use borrow.Author.Needs.{needs}
-use Rattle.file.specs.Laws.{laws}
+use Rattle.file.proofs.Laws.{laws}
 use Rattle.file.proofs.marked_by.Statement.{statement}
 use Rattle.file.proofs.marked_by.Tie as tie
 

@@ -1,5 +1,5 @@
 -- `file::read` meets its contract. Assumes nothing.
-use Rattle.file.specs.Laws.{files}
+use Rattle.file.proofs.Laws.{files}
 use borrow.Author.Needs.{needs}
 use Rattle.file.proofs.read.Statement.{statement}
 use Rattle.file.proofs.read.Tie as tie

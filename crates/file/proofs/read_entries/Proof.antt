@@ -1,5 +1,5 @@
 -- `file::read_entries` meets its contract. Assumes nothing.
-use Rattle.file.specs.Laws.{runs}
+use Rattle.file.proofs.Laws.{runs}
 use borrow.Author.Needs.{needs}
 use Rattle.file.proofs.read_entries.Statement.{statement}
 use Rattle.file.proofs.read_entries.Tie as tie

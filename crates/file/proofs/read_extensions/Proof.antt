@@ -1,11 +1,8 @@
 -- `file::read_extensions` meets its contract. Assumes nothing.
-use Rattle.file.specs.Laws.{walks}
+use Rattle.file.proofs.Laws.{walks}
 use borrow.Author.Needs.{needs}
 use Rattle.file.proofs.read_extensions.Statement.{statement}
 use Rattle.file.proofs.read_extensions.Tie as tie
-
-sub-t18 : tie.Need-sub-t18
-sub-t18 c = search (walks, needs)
 
 walk-requires : tie.Need-walk-requires
 walk-requires c κs = search (walks, needs)
@@ -56,7 +53,6 @@ pub read-extensions-spec : {M : Type 1} → statement M
 read-extensions-spec =
     tie.close
     (tie.spec
-    sub-t18
     walk-requires
     enum-known-w
     enum-known-w-2

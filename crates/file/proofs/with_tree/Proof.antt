@@ -1,5 +1,5 @@
 -- `file::with_tree` meets its contract. Assumes nothing.
-use Rattle.file.specs.Laws.{laws}
+use Rattle.file.proofs.Laws.{laws}
 use borrow.Author.Needs.{needs}
 use Rattle.file.proofs.with_tree.Statement.{statement}
 use Rattle.file.proofs.with_tree.Tie as tie

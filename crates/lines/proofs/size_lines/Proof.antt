@@ -1,16 +1,17 @@
 -- `lines::size_lines` meets its contract. The loop's invariant: the size so far and the lines that are left come to the whole. Assumes nothing.
-use Rattle.lines.specs.Written.{cap}
+use Rattle.sums.specs.Cap.{cap}
 use mathlib.Core.Path.{_≡_}
 use Prim.Native.Nat.{_+_, _-_, _≤_}
 use lib.ListN.{length}
 use Rattle.lines.specs.Lines.{linesFrom}
 use borrow.Author.Needs.{needs}
+use Rattle.format.specs.Format.{idSize}
 use Rattle.lines.proofs.Laws.{laws}
 use Rattle.lines.proofs.size_lines.Statement.{statement}
 use Rattle.lines.proofs.size_lines.Tie as tie
 
 abbrev Inv-loop : tie.InvT-loop
-Inv-loop records paths n size₀ i₀ size i = ((i ≤ n) × (size ≤ 18446744073709551615)) × (cap (size + length (linesFrom 20 records paths (n - i) i)) ≡ cap (length (linesFrom 20 records paths n 0)))
+Inv-loop records paths n size₀ i₀ size i = ((i ≤ n) × (size ≤ 18446744073709551615)) × (cap (size + length (linesFrom idSize records paths (n - i) i)) ≡ cap (length (linesFrom idSize records paths n 0)))
 
 abbrev μ-loop : tie.MeasureT-loop
 μ-loop records paths n size₀ i₀ size i = n - i
@@ -24,8 +25,8 @@ path-of-requires c κs = search (laws, needs)
 add-line : tie.Need-add-line Inv-loop μ-loop
 add-line c = search (laws, needs)
 
-plus-requires : tie.Need-plus-requires Inv-loop μ-loop
-plus-requires c κs = search (laws, needs)
+saturating-add-requires : tie.Need-saturating-add-requires Inv-loop μ-loop
+saturating-add-requires c κs = search (laws, needs)
 
 add-i : tie.Need-add-i Inv-loop μ-loop
 add-i c = search (laws, needs)
@@ -48,7 +49,7 @@ size-lines-spec =
     loop-holds
     path-of-requires
     add-line
-    plus-requires
+    saturating-add-requires
     add-i
     loop-less
     loop-again

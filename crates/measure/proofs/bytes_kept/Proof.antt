@@ -1,6 +1,6 @@
 -- `measure::bytes_kept` meets its contract. Assumes nothing.
 use borrow.Author.Needs.{needs}
-use Rattle.measure.specs.Laws.{laws}
+use Rattle.measure.proofs.Laws.{laws}
 use Rattle.measure.proofs.bytes_kept.Statement.{statement}
 use Rattle.measure.proofs.bytes_kept.Tie as tie
 

@@ -1,7 +1,7 @@
 -- `measure::compressed` meets its contract. Assumes nothing.
 use native.Mathlib.Omega.{arith}
 use borrow.Author.Needs.{needs}
-use Rattle.measure.specs.Laws.{cut-small, laws}
+use Rattle.measure.proofs.Laws.{cut-small, laws}
 use Rattle.measure.proofs.compressed.Statement.{statement}
 use Rattle.measure.proofs.compressed.Tie as tie
 

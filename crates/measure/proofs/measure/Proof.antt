@@ -2,7 +2,7 @@
 use native.Mathlib.Omega.{arith}
 use borrow.Author.Needs.{needs}
 use Rattle.measure.specs.Inside.{head-room, heads}
-use Rattle.measure.specs.Laws.{laws}
+use Rattle.measure.proofs.Laws.{laws}
 use Rattle.measure.proofs.measure.Statement.{statement}
 use Rattle.measure.proofs.measure.Tie as tie
 

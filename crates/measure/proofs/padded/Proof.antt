@@ -1,7 +1,7 @@
 -- `measure::padded` meets its contract. Assumes nothing.
 use native.Mathlib.Omega.{arith}
 use borrow.Author.Needs.{needs}
-use Rattle.measure.specs.Laws.{nul-below, laws}
+use Rattle.measure.proofs.Laws.{nul-below, laws}
 use Rattle.measure.proofs.padded.Statement.{statement}
 use Rattle.measure.proofs.padded.Tie as tie
 

@@ -1,6 +1,6 @@
 -- `measure::padded_to` meets its contract. Assumes nothing.
 use borrow.Author.Needs.{needs}
-use Rattle.measure.specs.Laws.{laws}
+use Rattle.measure.proofs.Laws.{laws}
 use Rattle.measure.proofs.padded_to.Statement.{statement}
 use Rattle.measure.proofs.padded_to.Tie as tie
 

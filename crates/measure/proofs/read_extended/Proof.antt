@@ -1,7 +1,7 @@
 -- `measure::read_extended` meets its contract. Assumes nothing.
 use native.Mathlib.Omega.{arith}
 use borrow.Author.Needs.{needs}
-use Rattle.measure.specs.Laws.{extended-small, laws}
+use Rattle.measure.proofs.Laws.{extended-small, laws}
 use Rattle.measure.proofs.read_extended.Statement.{statement}
 use Rattle.measure.proofs.read_extended.Tie as tie
 

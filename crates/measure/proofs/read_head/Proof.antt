@@ -1,6 +1,6 @@
 -- `measure::read_head` meets its contract. Assumes nothing.
 use borrow.Author.Needs.{needs}
-use Rattle.measure.specs.Laws.{laws}
+use Rattle.measure.proofs.Laws.{laws}
 use Rattle.measure.proofs.read_head.Statement.{statement}
 use Rattle.measure.proofs.read_head.Tie as tie
 

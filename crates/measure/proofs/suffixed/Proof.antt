@@ -1,7 +1,7 @@
 -- `measure::suffixed` meets its contract. Assumes nothing.
 use native.Mathlib.Omega.{arith}
 use borrow.Author.Needs.{needs}
-use Rattle.measure.specs.Laws.{nul-below, laws}
+use Rattle.measure.proofs.Laws.{nul-below, laws}
 use Rattle.measure.proofs.suffixed.Statement.{statement}
 use Rattle.measure.proofs.suffixed.Tie as tie
 

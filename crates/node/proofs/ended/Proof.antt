@@ -1,5 +1,5 @@
 -- `node::ended` meets its contract. Each answer is a case of the definition. Assumes nothing.
-use Rattle.node.specs.Laws.{heads}
+use Rattle.node.proofs.Laws.{heads}
 use borrow.Author.Needs.{needs}
 use Rattle.node.proofs.ended.Statement.{statement}
 use Rattle.node.proofs.ended.Tie as tie

@@ -1,5 +1,5 @@
 -- `node::name` meets its contract. Assumes nothing.
-use Rattle.node.specs.Laws.{stores}
+use Rattle.node.proofs.Laws.{stores}
 use borrow.Author.Needs.{needs}
 use Rattle.node.proofs.name.Statement.{statement}
 use Rattle.node.proofs.name.Tie as tie

@@ -1,5 +1,5 @@
 -- `node::node_head` meets its contract. The NUL that ends the name lies before the end, so that the place behind it fits. Assumes nothing.
-use Rattle.node.specs.Laws.{heads, stop-less}
+use Rattle.node.proofs.Laws.{heads, stop-less}
 use native.Mathlib.Omega.{arith}
 use borrow.Author.Needs.{needs}
 use Rattle.node.proofs.node_head.Statement.{statement}

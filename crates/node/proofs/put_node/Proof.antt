@@ -1,5 +1,5 @@
 -- `node::put_node` meets its contract. The numbers and the id, made in an array, are pasted as one. Assumes nothing.
-use Rattle.node.specs.Laws.{puts}
+use Rattle.node.proofs.Laws.{puts}
 use borrow.Author.Needs.{needs}
 use Rattle.node.proofs.put_node.Statement.{statement}
 use Rattle.node.proofs.put_node.Tie as tie

@@ -1,5 +1,5 @@
 -- `node::put_numbers` meets its contract. Five pastes side by side are one. Assumes nothing.
-use Rattle.node.specs.Laws.{numbers-put}
+use Rattle.node.proofs.Laws.{numbers-put}
 use borrow.Author.Needs.{needs}
 use Rattle.node.proofs.put_numbers.Statement.{statement}
 use Rattle.node.proofs.put_numbers.Tie as tie

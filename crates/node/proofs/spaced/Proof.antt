@@ -1,5 +1,5 @@
 -- `node::spaced` meets its contract. Assumes nothing.
-use Rattle.node.specs.Laws.{heads}
+use Rattle.node.proofs.Laws.{heads}
 use borrow.Author.Needs.{needs}
 use Rattle.node.proofs.spaced.Statement.{statement}
 use Rattle.node.proofs.spaced.Tie as tie

@@ -1,20 +1,23 @@
 -- `proper::all_kids_fit` meets its contract. The invariant: the test of the nodes that are left answers what the whole answers. Assumes nothing.
 use Prim.Native.Nat.{_-_}
 use mathlib.Core.Path.{_≡_}
-use Rattle.proper.specs.Proper.{allIn, kidsFit}
+use Rattle.proper.specs.Proper.{allIn, kidsFit, allKidsFit}
 use borrow.Author.Needs.{needs}
 use Rattle.proper.proofs.Fits.{fits}
 use Rattle.proper.proofs.all_kids_fit.Statement.{statement}
 use Rattle.proper.proofs.all_kids_fit.Tie as tie
 
 abbrev Inv-loop : tie.InvT-loop
-Inv-loop nodes names walk n i₀ i = allIn (kidsFit nodes names) (n - i) i ≡ allIn (kidsFit nodes names) n 0
+Inv-loop nodes names walk n i₀ i = allIn (kidsFit nodes names) (n - i) i ≡ allKidsFit nodes names
 
 abbrev μ-loop : tie.MeasureT-loop
 μ-loop nodes names walk n i₀ i = n - i
 
 in-walk-order-requires : tie.Need-in-walk-order-requires Inv-loop μ-loop
 in-walk-order-requires c κs = search (fits, needs)
+
+nodes-in-requires : tie.Need-nodes-in-requires Inv-loop μ-loop
+nodes-in-requires c κs = search (fits, needs)
 
 loop-holds : tie.Need-loop-holds Inv-loop μ-loop
 loop-holds c = search (fits, needs)
@@ -44,6 +47,7 @@ all-kids-fit-spec =
     Inv-loop
     μ-loop
     in-walk-order-requires
+    nodes-in-requires
     loop-holds
     kids-fit-requires
     add-i

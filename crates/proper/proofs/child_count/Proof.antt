@@ -14,6 +14,9 @@ Inv-loop nodes p n count₀ j₀ count j = Counting nodes p n count j
 abbrev μ-loop : tie.MeasureT-loop
 μ-loop nodes p n count₀ j₀ count j = n - j
 
+nodes-in-requires : tie.Need-nodes-in-requires Inv-loop μ-loop
+nodes-in-requires c κs = search (fits, needs)
+
 loop-holds : tie.Need-loop-holds Inv-loop μ-loop
 loop-holds c = search (fits, needs)
 
@@ -50,6 +53,7 @@ child-count-spec =
     (tie.spec
     Inv-loop
     μ-loop
+    nodes-in-requires
     loop-holds
     parent-requires
     add-count

@@ -1,7 +1,8 @@
 use Prim.Native.Nat.{_-_}
 use mathlib.Core.Path.{_≡_}
-use Rattle.proper.specs.Proper.{allIn, nodeFits}
+use Rattle.proper.specs.Proper.{allIn, nodeFits, nodesFit}
 use borrow.Author.Needs.{needs}
+use Rattle.format.specs.Format.{depthLimit}
 use Rattle.proper.proofs.Fits.{fits}
 use Rattle.proper.proofs.nodes_fit.Statement.{statement}
 use Rattle.proper.proofs.nodes_fit.Tie as tie
@@ -10,10 +11,13 @@ use Rattle.proper.proofs.nodes_fit.Lts as lts
 use Rattle.proper.proofs.node_fits.Reads as node-fits-reads
 
 abbrev Inv-loop : tie.InvT-loop
-Inv-loop nodes names n i₀ i = allIn (nodeFits 64 nodes names) (n - i) i ≡ allIn (nodeFits 64 nodes names) n 0
+Inv-loop nodes names n i₀ i = allIn (nodeFits depthLimit nodes names) (n - i) i ≡ nodesFit depthLimit nodes names
 
 abbrev μ-loop : tie.MeasureT-loop
 μ-loop nodes names n i₀ i = n - i
+
+nodes-in-requires : tie.Need-nodes-in-requires Inv-loop μ-loop
+nodes-in-requires c κs = search (fits, needs)
 
 loop-holds : tie.Need-loop-holds Inv-loop μ-loop
 loop-holds c = search (fits, needs)
@@ -42,6 +46,7 @@ nodes-fit-spec =
     (tie.spec
     Inv-loop
     μ-loop
+    nodes-in-requires
     loop-holds
     node-fits-requires
     add-i

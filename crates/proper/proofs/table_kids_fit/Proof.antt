@@ -4,6 +4,9 @@ use borrow.Author.Needs.{needs}
 use Rattle.proper.proofs.table_kids_fit.Statement.{statement}
 use Rattle.proper.proofs.table_kids_fit.Tie as tie
 
+nodes-in-requires : tie.Need-nodes-in-requires
+nodes-in-requires c κs = search (fits, needs)
+
 subtrees-requires : tie.Need-subtrees-requires
 subtrees-requires c κs = search (fits, needs)
 
@@ -22,4 +25,4 @@ returns-2 c = search (fits, needs)
 pub table-kids-fit-spec : {M : Type 1} → statement M
 table-kids-fit-spec =
     tie.close
-    (tie.spec subtrees-requires child-count-requires siblings-differ-requires returns returns-2)
+    (tie.spec nodes-in-requires subtrees-requires child-count-requires siblings-differ-requires returns returns-2)

@@ -6,14 +6,14 @@ use borrow.Author.Needs.{needs}
 use Rattle.refusals.proofs.show_file.Statement.{statement}
 use Rattle.refusals.proofs.show_file.Tie as tie
 
-least-requires : tie.Need-least-requires
-least-requires c κs = search needs
+min-requires : tie.Need-min-requires
+min-requires c κs = search needs
 
-least-requires-2 : tie.Need-least-requires-2
-least-requires-2 c κs = search needs
+min-requires-2 : tie.Need-min-requires-2
+min-requires-2 c κs = search needs
 
-least-requires-3 : tie.Need-least-requires-3
-least-requires-3 c κs = search needs
+min-requires-3 : tie.Need-min-requires-3
+min-requires-3 c κs = search needs
 
 array-borrow-prefix-records : tie.Need-array-borrow-prefix-records
 array-borrow-prefix-records c = search needs
@@ -43,9 +43,9 @@ pub show-file-spec : {M : Type 1} → statement M
 show-file-spec =
     tie.close
     (tie.spec
-    least-requires
-    least-requires-2
-    least-requires-3
+    min-requires
+    min-requires-2
+    min-requires-3
     array-borrow-prefix-records
     slice-aggregate-show-read
     array-borrow-prefix-paths

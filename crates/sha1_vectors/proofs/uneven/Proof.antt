@@ -27,16 +27,16 @@ loop-holds c =
     let z : c .before .args .n - c .before .args .n ≡ 0 = omega arith in
     (search needs, (search needs, (search needs, rw z (c .new .ensures))))
 
-least-requires : tie.Need-least-requires Inv-loop μ-loop
-least-requires c κs = search needs
+min-requires : tie.Need-min-requires Inv-loop μ-loop
+min-requires c κs = search needs
 
 array-share-prefix-a : tie.Need-array-share-prefix-a Inv-loop μ-loop
 array-share-prefix-a c = search needs
 
 slice-aggregate-feed : tie.Need-slice-aggregate-feed Inv-loop μ-loop
 slice-aggregate-feed c =
-    let m = c .before .least .ensures in
-    sym (length-take-le (c .before .least .result) (replicate 130 97) (omega arith))
+    let m = c .before .min .ensures in
+    sym (length-take-le (c .before .min .result) (replicate 130 97) (omega arith))
 
 feed-requires : tie.Need-feed-requires Inv-loop μ-loop
 feed-requires c κs = search needs
@@ -54,8 +54,8 @@ loop-again : tie.Need-loop-again Inv-loop μ-loop
 loop-again c =
     let v = c .before .before .before .before .loop in
     let n = c .before .before .before .before .before .before .args .n in
-    let part = c .before .before .least .result in
-    let m = c .before .before .least .ensures in
+    let part = c .before .before .min .result in
+    let m = c .before .before .min .ensures in
     let piece : List ℕ = take part (replicate 130 97) in
     let sum : (n - v .left) + part ≡ n - (v .left - part) = omega arith in
     let same : piece ≡ replicate part 97 = take-replicate part 130 97 (omega arith) in
@@ -82,7 +82,7 @@ uneven-spec =
     μ-loop
     new-requires
     loop-holds
-    least-requires
+    min-requires
     array-share-prefix-a
     slice-aggregate-feed
     feed-requires

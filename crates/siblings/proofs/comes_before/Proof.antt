@@ -4,7 +4,7 @@ use Prim.Native.Nat.{_≤_, _-_}
 use lib.ListN.{length, drop}
 use Rattle.siblings.specs.Rising.{before}
 use borrow.Author.Needs.{needs}
-use Rattle.siblings.specs.Laws.{compares}
+use Rattle.siblings.proofs.Laws.{compares}
 use Rattle.siblings.proofs.comes_before.Statement.{statement}
 use Rattle.siblings.proofs.comes_before.Tie as tie
 

@@ -3,7 +3,7 @@ use mathlib.Core.Path.{_≡_}
 use Prim.Native.Nat.{_-_}
 use Rattle.siblings.specs.Siblings.{anyIn, twin, repeats}
 use borrow.Author.Needs.{needs}
-use Rattle.siblings.specs.Laws.{searches}
+use Rattle.siblings.proofs.Laws.{searches}
 use Rattle.siblings.proofs.is_repeated.Statement.{statement}
 use Rattle.siblings.proofs.is_repeated.Tie as tie
 

@@ -1,5 +1,5 @@
 -- `siblings::is_twin` meets its contract. Assumes nothing.
-use Rattle.siblings.specs.Laws.{searches}
+use Rattle.siblings.proofs.Laws.{searches}
 use borrow.Author.Needs.{needs}
 use Rattle.siblings.proofs.is_twin.Statement.{statement}
 use Rattle.siblings.proofs.is_twin.Tie as tie

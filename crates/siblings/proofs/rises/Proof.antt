@@ -1,5 +1,5 @@
 -- `siblings::rises` meets its contract. Assumes nothing.
-use Rattle.siblings.specs.Laws.{rises}
+use Rattle.siblings.proofs.Laws.{rises}
 use borrow.Author.Needs.{needs}
 use Rattle.siblings.proofs.rises.Statement.{statement}
 use Rattle.siblings.proofs.rises.Tie as tie

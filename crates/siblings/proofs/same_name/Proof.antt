@@ -1,5 +1,5 @@
 -- `siblings::same_name` meets its contract. Names of different lengths differ. Assumes nothing.
-use Rattle.siblings.specs.Laws.{searches}
+use Rattle.siblings.proofs.Laws.{searches}
 use borrow.Author.Needs.{needs}
 use Rattle.siblings.proofs.same_name.Statement.{statement}
 use Rattle.siblings.proofs.same_name.Tie as tie

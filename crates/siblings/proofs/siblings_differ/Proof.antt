@@ -5,7 +5,7 @@ use Prim.Native.Nat.{_-_}
 use Rattle.laws.specs.Pick.{pick}
 use Rattle.siblings.specs.Siblings.{anyIn, repeats, siblingsDiffer}
 use borrow.Author.Needs.{needs}
-use Rattle.siblings.specs.Laws.{searches}
+use Rattle.siblings.proofs.Laws.{searches}
 use Rattle.siblings.proofs.siblings_differ.Statement.{statement}
 use Rattle.siblings.proofs.siblings_differ.Tie as tie
 

@@ -1,6 +1,6 @@
 -- `tree::one_recursive` meets its contract. The remaining depth falls. The invariant: the children so far are in the order that is noted, and what is left of the subtrees gives the whole answer. Assumes nothing.
 use borrow.Author.Needs.{needs}
-use Rattle.tree.specs.Laws.{walks, so-far-next}
+use Rattle.tree.proofs.Laws.{walks, so-far-next}
 use mathlib.Core.Path.{_≡_}
 use lib.ListN.{length}
 use Prim.Native.Nat.{ℕ, _^_, _<_}
@@ -8,6 +8,7 @@ use Rattle.siblings.specs.InOrder.{SoFar}
 use Rattle.tree.specs.Tree.{kids, nodeAt}
 use borrow.Fn.Kinds.{In}
 use borrow.Fn.PlainCycle.{Measures, is, falls, and}
+use Rattle.format.specs.Format.{idSize}
 use Rattle.tree.proofs.one_recursive.Reads as one-recursive
 use Rattle.tree.proofs.one_recursive.Kinds as one-recursive-kinds
 use Rattle.tree.proofs.+one_recursive.Lts-one_recursive as one-recursive-lts
@@ -36,7 +37,7 @@ one-recursive-below t =
 abbrev one-recursive-Inv-loop : one-recursive-lts.InvT-loop
 one-recursive-Inv-loop file at end nodes₀ used parent depth below next₀ have₀ left₀ so₀ nodes next have left so =
     (length nodes ≡ length nodes₀) × (length nodes < 256 ^ 8) × SoFar file nodes used have so
-    × (kids (nodeAt 20 file end below used) left next have nodes ≡ kids (nodeAt 20 file end below used) left₀ next₀ have₀ nodes₀)
+    × (kids (nodeAt idSize file end below used) left next have nodes ≡ kids (nodeAt idSize file end below used) left₀ next₀ have₀ nodes₀)
 
 abbrev one-recursive-μ-loop : one-recursive-lts.MeasureT-loop
 one-recursive-μ-loop file at end nodes₀ used parent depth below next₀ have₀ left₀ so₀ nodes next have left so =

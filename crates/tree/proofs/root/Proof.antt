@@ -1,5 +1,5 @@
 -- `tree::root` meets its contract. Assumes nothing.
-use Rattle.tree.specs.Laws.{roots}
+use Rattle.tree.proofs.Laws.{roots}
 use borrow.Author.Needs.{needs}
 use Rattle.tree.proofs.root.Statement.{statement}
 use Rattle.tree.proofs.root.Tie as tie

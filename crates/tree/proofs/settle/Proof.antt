@@ -1,5 +1,5 @@
 -- `tree::settle` meets its contract. Either order settles the names. Assumes nothing.
-use Rattle.tree.specs.Laws.{settles}
+use Rattle.tree.proofs.Laws.{settles}
 use borrow.Author.Needs.{needs}
 use Rattle.tree.proofs.settle.Statement.{statement}
 use Rattle.tree.proofs.settle.Tie as tie

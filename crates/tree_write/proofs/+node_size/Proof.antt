@@ -15,7 +15,8 @@ use borrow.Fn.PlainCycle.{Measures, is, falls, and}
 use Rattle.tree_write.proofs.node_size.Reads as node-size
 use Rattle.tree_write.proofs.node_size.Kinds as node-size-kinds
 use Rattle.tree_write.proofs.+node_size.Lts-node_size as node-size-lts
-use Rattle.sums.proofs.plus.Reads as plus-reads
+use Rattle.sums.proofs.saturating_add.Reads as saturating-add-reads
+use Rattle.format.specs.Format.{idSize}
 use Rattle.tree_write.proofs.head_size.Reads as head-size-reads
 use Rattle.tree_write.proofs.runs.begin.Reads as begin-reads
 use Rattle.tree_write.proofs.runs.next.Reads as next-reads
@@ -37,13 +38,13 @@ abbrev node-size-Inv-loop : node-size-lts.InvT-loop
 node-size-Inv-loop nodes names walk me depth below size₀ heads₀ runs used last₀ left₀ size heads last left =
     Ready nodes names me last runs heads
     × ((size ≤ largest)
-    × (cap (size + length (each (nodeBytes 20 nodes names below) (kids nodes names me left last))) ≡ cap (length (nodeBytes 20 nodes names depth me))))
+    × (cap (size + length (each (nodeBytes idSize nodes names below) (kids nodes names me left last))) ≡ cap (length (nodeBytes idSize nodes names depth me))))
 
 abbrev node-size-μ-loop : node-size-lts.MeasureT-loop
 node-size-μ-loop nodes names walk me depth below size₀ heads₀ runs used last₀ left₀ size heads last left = left
 
 abbrev node-size-callees : ℕ → node-size-lts.Claims
-node-size-callees t = (head-size-reads.Asked, head-size-reads.Learnt, begin-reads.Asked, begin-reads.Learnt, next-reads.Asked, next-reads.Learnt, node-size-below t, node-size.Post, plus-reads.Asked, plus-reads.Learnt, step-reads.Asked, step-reads.Learnt)
+node-size-callees t = (head-size-reads.Asked, head-size-reads.Learnt, begin-reads.Asked, begin-reads.Learnt, next-reads.Asked, next-reads.Learnt, node-size-below t, node-size.Post, saturating-add-reads.Asked, saturating-add-reads.Learnt, step-reads.Asked, step-reads.Learnt)
 
 node-size-returns : (t : ℕ) → node-size-lts.Need-returns (node-size-callees t) (node-size-at t) node-size.Post node-size-Inv-loop node-size-μ-loop
 node-size-returns t c = search (size-laws, needs)
@@ -71,8 +72,8 @@ node-size-returns-2 t c =
 node-size-node-size-requires : (t : ℕ) → node-size-lts.Need-node-size-requires (node-size-callees t) (node-size-at t) node-size.Post node-size-Inv-loop node-size-μ-loop
 node-size-node-size-requires t c κs = search (size-laws, needs)
 
-node-size-plus-requires : (t : ℕ) → node-size-lts.Need-plus-requires (node-size-callees t) (node-size-at t) node-size.Post node-size-Inv-loop node-size-μ-loop
-node-size-plus-requires t c κs = search (size-laws, needs)
+node-size-saturating-add-requires : (t : ℕ) → node-size-lts.Need-saturating-add-requires (node-size-callees t) (node-size-at t) node-size.Post node-size-Inv-loop node-size-μ-loop
+node-size-saturating-add-requires t c κs = search (size-laws, needs)
 
 node-size-step-requires : (t : ℕ) → node-size-lts.Need-step-requires (node-size-callees t) (node-size-at t) node-size.Post node-size-Inv-loop node-size-μ-loop
 node-size-step-requires t c κs = search (size-laws, needs)
@@ -89,7 +90,7 @@ node-size-loop-again t c =
     let kid = c .before .before .before .before .before .next .ensures in
     let real = c .before .before .before .before .if2 .left in
     let more = kids-more _ _ _ _ _ _ (c .before .before .before .before .before .before .before .loop-test .taken) kid real in
-    let sum = c .before .before .plus .ensures in
+    let sum = c .before .before .saturating-add .ensures in
     (ready-step _ _ _ _ _ _ _ _ (inv .0) kid real (c .step .ensures), (sum-small _ _ sum, node-size-more _ _ _ _ _ _ _ _ _ _ _ (inv .1 .1) more (c .before .before .before .node-size .ensures) sum))
 
 node-size-returns-3 : (t : ℕ) → node-size-lts.Need-returns-3 (node-size-callees t) (node-size-at t) node-size.Post node-size-Inv-loop node-size-μ-loop
@@ -111,7 +112,7 @@ pub +node-size-spec : {M : Type 1} → statement M
     (node-size-next-requires t)
     (node-size-returns-2 t)
     (node-size-node-size-requires t)
-    (node-size-plus-requires t)
+    (node-size-saturating-add-requires t)
     (node-size-step-requires t)
     (node-size-sub-left t)
     (node-size-loop-less t)

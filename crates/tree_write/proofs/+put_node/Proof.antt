@@ -6,6 +6,7 @@ use mathlib.Core.Path.{_≡_}
 use Prim.Native.Nat.{_≤_, _-_, _+_}
 use lib.ListN.{length}
 use Rattle.laws.specs.Put.{put}
+use Rattle.format.specs.Format.{idSize}
 use Rattle.tree_write.specs.Tree.{kids, each, nodeBytes}
 use Rattle.tree_write.specs.Runs.{Ready}
 use Rattle.tree_write.proofs.Merge.{ready-step}
@@ -38,9 +39,9 @@ abbrev put-node-Inv-loop : put-node-lts.InvT-loop
 put-node-Inv-loop nodes names walk me out₀ at depth below pos₀ heads₀ runs used last₀ left₀ out pos heads last left =
     Ready nodes names me last runs heads
     × ((length out ≡ length out₀)
-    × ((pos + length (each (nodeBytes 20 nodes names below) (kids nodes names me left last)) ≤ length out)
-    × ((pos + length (each (nodeBytes 20 nodes names below) (kids nodes names me left last)) ≡ pos₀ + length (each (nodeBytes 20 nodes names below) (kids nodes names me left₀ last₀)))
-    × (put out pos (each (nodeBytes 20 nodes names below) (kids nodes names me left last)) ≡ put out₀ pos₀ (each (nodeBytes 20 nodes names below) (kids nodes names me left₀ last₀))))))
+    × ((pos + length (each (nodeBytes idSize nodes names below) (kids nodes names me left last)) ≤ length out)
+    × ((pos + length (each (nodeBytes idSize nodes names below) (kids nodes names me left last)) ≡ pos₀ + length (each (nodeBytes idSize nodes names below) (kids nodes names me left₀ last₀)))
+    × (put out pos (each (nodeBytes idSize nodes names below) (kids nodes names me left last)) ≡ put out₀ pos₀ (each (nodeBytes idSize nodes names below) (kids nodes names me left₀ last₀))))))
 
 abbrev put-node-μ-loop : put-node-lts.MeasureT-loop
 put-node-μ-loop nodes names walk me out₀ at depth below pos₀ heads₀ runs used last₀ left₀ out pos heads last left = left

@@ -7,7 +7,7 @@ use Rattle.tree_write.proofs.head_size.Lts as lts
 use Rattle.node.proofs.count.Reads as count-reads
 use Rattle.node.proofs.name.Reads as name-reads
 use Rattle.node.proofs.subtrees.Reads as subtrees-reads
-use Rattle.sums.proofs.plus.Reads as plus-reads
+use Rattle.sums.proofs.saturating_add.Reads as saturating-add-reads
 use Rattle.tree_write.proofs.count_size.Reads as count-size-reads
 use Rattle.tree_write.proofs.id_size.Reads as id-size-reads
 use Rattle.wire.proofs.decimal_size.Reads as decimal-size-reads
@@ -30,17 +30,17 @@ decimal-size-requires c κs = search (laws, needs)
 id-size-requires : tie.Need-id-size-requires
 id-size-requires c κs = search (laws, needs)
 
-plus-requires : tie.Need-plus-requires
-plus-requires c κs = search (laws, needs)
+saturating-add-requires : tie.Need-saturating-add-requires
+saturating-add-requires c κs = search (laws, needs)
 
-plus-requires-2 : tie.Need-plus-requires-2
-plus-requires-2 c κs = search (laws, needs)
+saturating-add-requires-2 : tie.Need-saturating-add-requires-2
+saturating-add-requires-2 c κs = search (laws, needs)
 
-plus-requires-3 : tie.Need-plus-requires-3
-plus-requires-3 c κs = search (laws, needs)
+saturating-add-requires-3 : tie.Need-saturating-add-requires-3
+saturating-add-requires-3 c κs = search (laws, needs)
 
-plus-requires-4 : tie.Need-plus-requires-4
-plus-requires-4 c κs = search (laws, needs)
+saturating-add-requires-4 : tie.Need-saturating-add-requires-4
+saturating-add-requires-4 c κs = search (laws, needs)
 
 returns : tie.Need-returns
 returns c = search (laws, needs)
@@ -55,8 +55,8 @@ head-size-spec =
     count-size-requires
     decimal-size-requires
     id-size-requires
-    plus-requires
-    plus-requires-2
-    plus-requires-3
-    plus-requires-4
+    saturating-add-requires
+    saturating-add-requires-2
+    saturating-add-requires-3
+    saturating-add-requires-4
     returns)

@@ -17,6 +17,9 @@ Inv-loop nodes names parent last n best₀ j₀ best j = (1 ≤ j) × (bestRun n
 abbrev μ-loop : tie.MeasureT-loop
 μ-loop nodes names parent last n best₀ j₀ best j = n - j
 
+nodes-in-requires : tie.Need-nodes-in-requires Inv-loop μ-loop
+nodes-in-requires c κs = search (run-laws, needs)
+
 loop-holds : tie.Need-loop-holds Inv-loop μ-loop
 loop-holds c = search (run-laws, needs)
 
@@ -40,4 +43,4 @@ returns c = search (run-laws, needs)
 pub next-kid-spec : {M : Type 1} → statement M
 next-kid-spec =
     tie.close
-    (tie.spec Inv-loop μ-loop loop-holds better-of-requires add-j loop-less loop-again returns)
+    (tie.spec Inv-loop μ-loop nodes-in-requires loop-holds better-of-requires add-j loop-less loop-again returns)

@@ -2,12 +2,13 @@
 use mathlib.Core.Path.{_≡_}
 use Rattle.walk_order.specs.Walk.{climbsTo}
 use borrow.Author.Needs.{needs}
+use Rattle.format.specs.Format.{depthLimit}
 use Rattle.walk_order.proofs.Laws.{laws}
 use Rattle.walk_order.proofs.climbs_to.Statement.{statement}
 use Rattle.walk_order.proofs.climbs_to.Tie as tie
 
 abbrev Inv-loop : tie.InvT-loop
-Inv-loop nodes from to node₀ left₀ node left = climbsTo nodes left node to ≡ climbsTo nodes 64 from to
+Inv-loop nodes from to node₀ left₀ node left = climbsTo nodes left node to ≡ climbsTo nodes depthLimit from to
 
 abbrev μ-loop : tie.MeasureT-loop
 μ-loop nodes from to node₀ left₀ node left = left

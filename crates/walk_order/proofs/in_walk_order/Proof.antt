@@ -3,15 +3,19 @@ use mathlib.Core.Path.{_≡_}
 use Prim.Native.Nat.{_-_, _≤_}
 use Rattle.walk_order.specs.Walk.{walksFrom, walks}
 use borrow.Author.Needs.{needs}
+use Rattle.format.specs.Format.{depthLimit}
 use Rattle.walk_order.proofs.Laws.{laws}
 use Rattle.walk_order.proofs.in_walk_order.Statement.{statement}
 use Rattle.walk_order.proofs.in_walk_order.Tie as tie
 
 abbrev Inv-loop : tie.InvT-loop
-Inv-loop nodes n j₀ j = (1 ≤ j) × (walksFrom 64 nodes (n - j) j ≡ walks 64 nodes)
+Inv-loop nodes n j₀ j = (1 ≤ j) × (walksFrom depthLimit nodes (n - j) j ≡ walks depthLimit nodes)
 
 abbrev μ-loop : tie.MeasureT-loop
 μ-loop nodes n j₀ j = n - j
+
+nodes-in-requires : tie.Need-nodes-in-requires Inv-loop μ-loop
+nodes-in-requires c κs = search (laws, needs)
 
 loop-holds : tie.Need-loop-holds Inv-loop μ-loop
 loop-holds c = search (laws, needs)
@@ -46,6 +50,7 @@ in-walk-order-spec =
     (tie.spec
     Inv-loop
     μ-loop
+    nodes-in-requires
     loop-holds
     parent-requires
     sub-before

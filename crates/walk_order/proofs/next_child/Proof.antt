@@ -13,6 +13,9 @@ Inv-loop nodes p x n j₀ j = childFrom nodes p (n - j) j ≡ nextChild nodes p 
 abbrev μ-loop : tie.MeasureT-loop
 μ-loop nodes p x n j₀ j = n - j
 
+nodes-in-requires : tie.Need-nodes-in-requires Inv-loop μ-loop
+nodes-in-requires c κs = search (laws, needs)
+
 returns : tie.Need-returns Inv-loop μ-loop
 returns c = search (laws, needs)
 
@@ -49,6 +52,7 @@ next-child-spec =
     (tie.spec
     Inv-loop
     μ-loop
+    nodes-in-requires
     returns
     add-j
     loop-holds

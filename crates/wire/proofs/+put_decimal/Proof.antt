@@ -1,7 +1,8 @@
 -- `wire::put_decimal` meets its contract. The digits before the last are put by the call, and the last one behind them; the number falls. Assumes nothing.
 use native.Mathlib.Omega.{arith}
 use borrow.Author.Needs.{needs}
-use Rattle.wire.specs.Written.{size-more, written}
+use Rattle.wire.specs.Written.{size-more}
+use Rattle.wire.proofs.Laws.{written}
 use Prim.Native.Nat.{ℕ, _<_}
 use borrow.Fn.Kinds.{In}
 use borrow.Fn.PlainCycle.{Measures, is, falls, and}

@@ -1,5 +1,5 @@
 -- `wire::be16` meets its contract. The bytes are those of the number, the upper first. Assumes nothing.
-use Rattle.wire.specs.Laws.{ends}
+use Rattle.wire.proofs.Laws.{ends}
 use borrow.Author.Needs.{needs}
 use Rattle.wire.proofs.be16.Statement.{statement}
 use Rattle.wire.proofs.be16.Tie as tie

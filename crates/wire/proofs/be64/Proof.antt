@@ -1,42 +1,78 @@
--- `wire::be64` meets its contract. Two halves side by side are one number. Assumes nothing.
-use Rattle.wire.specs.Laws.{ends}
+-- `wire::be64` meets its contract. Assumes nothing.
+use Rattle.wire.proofs.Laws.{be64-is}
 use borrow.Author.Needs.{needs}
 use Rattle.wire.proofs.be64.Statement.{statement}
 use Rattle.wire.proofs.be64.Tie as tie
 
-be32-requires : tie.Need-be32-requires
-be32-requires c κs = search (ends, needs)
+shared-slice-read-cat64 : tie.Need-shared-slice-read-cat64
+shared-slice-read-cat64 c = search needs
 
-add-be32 : tie.Need-add-be32
-add-be32 c = search (ends, needs)
+add-cat64 : tie.Need-add-cat64
+add-cat64 c = search needs
 
-be32-requires-2 : tie.Need-be32-requires-2
-be32-requires-2 c κs = search (ends, needs)
+shared-slice-read-cat64-2 : tie.Need-shared-slice-read-cat64-2
+shared-slice-read-cat64-2 c = search needs
 
-cast-result : tie.Need-cast-result
-cast-result c = search (ends, needs)
+add-cat64-2 : tie.Need-add-cat64-2
+add-cat64-2 c = search needs
 
-mul-result : tie.Need-mul-result
-mul-result c = search (ends, needs)
+shared-slice-read-cat64-3 : tie.Need-shared-slice-read-cat64-3
+shared-slice-read-cat64-3 c = search needs
 
-cast-result-2 : tie.Need-cast-result-2
-cast-result-2 c = search (ends, needs)
+add-cat64-3 : tie.Need-add-cat64-3
+add-cat64-3 c = search needs
 
-add-result : tie.Need-add-result
-add-result c = search (ends, needs)
+shared-slice-read-cat64-4 : tie.Need-shared-slice-read-cat64-4
+shared-slice-read-cat64-4 c = search needs
+
+add-cat64-4 : tie.Need-add-cat64-4
+add-cat64-4 c = search needs
+
+shared-slice-read-cat64-5 : tie.Need-shared-slice-read-cat64-5
+shared-slice-read-cat64-5 c = search needs
+
+add-cat64-5 : tie.Need-add-cat64-5
+add-cat64-5 c = search needs
+
+shared-slice-read-cat64-6 : tie.Need-shared-slice-read-cat64-6
+shared-slice-read-cat64-6 c = search needs
+
+add-cat64-6 : tie.Need-add-cat64-6
+add-cat64-6 c = search needs
+
+shared-slice-read-cat64-7 : tie.Need-shared-slice-read-cat64-7
+shared-slice-read-cat64-7 c = search needs
+
+add-cat64-7 : tie.Need-add-cat64-7
+add-cat64-7 c = search needs
+
+shared-slice-read-cat64-8 : tie.Need-shared-slice-read-cat64-8
+shared-slice-read-cat64-8 c = search needs
+
+cat64-requires : tie.Need-cat64-requires
+cat64-requires c κs = search needs
 
 returns : tie.Need-returns
-returns c = search (ends, needs)
+returns c = search (be64-is, needs)
 
 pub be64-spec : {M : Type 1} → statement M
 be64-spec =
     tie.close
     (tie.spec
-    be32-requires
-    add-be32
-    be32-requires-2
-    cast-result
-    mul-result
-    cast-result-2
-    add-result
+    shared-slice-read-cat64
+    add-cat64
+    shared-slice-read-cat64-2
+    add-cat64-2
+    shared-slice-read-cat64-3
+    add-cat64-3
+    shared-slice-read-cat64-4
+    add-cat64-4
+    shared-slice-read-cat64-5
+    add-cat64-5
+    shared-slice-read-cat64-6
+    add-cat64-6
+    shared-slice-read-cat64-7
+    add-cat64-7
+    shared-slice-read-cat64-8
+    cat64-requires
     returns)

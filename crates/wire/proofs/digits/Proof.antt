@@ -1,5 +1,5 @@
 -- `wire::digits` meets its contract. The first digit is tested, and the run of digits follows. Assumes nothing.
-use Rattle.wire.specs.Laws.{digits}
+use Rattle.wire.proofs.Laws.{digits}
 use borrow.Author.Needs.{needs}
 use Rattle.wire.proofs.digits.Statement.{statement}
 use Rattle.wire.proofs.digits.Tie as tie

@@ -1,7 +1,7 @@
 -- `wire::grow` meets its contract. Where the value is not above the largest, its product is at most `most`. Assumes nothing.
 use native.Mathlib.Omega.{arith}
 use borrow.Author.Needs.{needs}
-use Rattle.wire.specs.Laws.{grow-under, grows}
+use Rattle.wire.proofs.Laws.{grow-under, grows}
 use Rattle.wire.proofs.grow.Statement.{statement}
 use Rattle.wire.proofs.grow.Tie as tie
 

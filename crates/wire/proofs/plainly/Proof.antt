@@ -1,5 +1,5 @@
 -- `wire::plainly` meets its contract. By cases. Assumes nothing.
-use Rattle.wire.specs.Laws.{signs}
+use Rattle.wire.proofs.Laws.{signs}
 use borrow.Author.Needs.{needs}
 use Rattle.wire.proofs.plainly.Statement.{statement}
 use Rattle.wire.proofs.plainly.Tie as tie

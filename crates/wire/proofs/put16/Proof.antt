@@ -1,5 +1,5 @@
 -- `wire::put16` meets its contract. Two stores side by side are one paste. Assumes nothing.
-use Rattle.wire.specs.Laws.{ends}
+use Rattle.wire.proofs.Laws.{ends}
 use native.Mathlib.Omega.{arith}
 use lib.ListN.{length-set}
 use borrow.Author.Needs.{needs}

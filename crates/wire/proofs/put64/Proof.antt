@@ -1,5 +1,5 @@
 -- `wire::put64` meets its contract. Two halves side by side are one number. Assumes nothing.
-use Rattle.wire.specs.Laws.{ends}
+use Rattle.wire.proofs.Laws.{ends}
 use borrow.Author.Needs.{needs}
 use Rattle.wire.proofs.put64.Statement.{statement}
 use Rattle.wire.proofs.put64.Tie as tie

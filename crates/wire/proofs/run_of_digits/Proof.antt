@@ -4,7 +4,7 @@ use Prim.Native.Nat.{_-_, _/_}
 use mathlib.Core.Path.{_≡_}
 use Rattle.wire.specs.Digits.{digitsIn}
 use borrow.Author.Needs.{needs}
-use Rattle.wire.specs.Laws.{digits}
+use Rattle.wire.proofs.Laws.{digits}
 use Rattle.wire.proofs.run_of_digits.Statement.{statement}
 use Rattle.wire.proofs.run_of_digits.Tie as tie
 

@@ -4,7 +4,7 @@ use Prim.Native.Nat.{_<_, _-_, _^_}
 use mathlib.Core.Path.{_≡_}
 use borrow.Author.Needs.{needs}
 use Rattle.wire.specs.Groups.{groupsIn, numberAt}
-use Rattle.wire.specs.Laws.{groups}
+use Rattle.wire.proofs.Laws.{groups}
 use Rattle.wire.proofs.seven_bit.Statement.{statement}
 use Rattle.wire.proofs.seven_bit.Tie as tie
 

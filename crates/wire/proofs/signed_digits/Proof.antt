@@ -1,5 +1,5 @@
 -- `wire::signed_digits` meets its contract. Each way through the sign is one law. Assumes nothing.
-use Rattle.wire.specs.Laws.{signs}
+use Rattle.wire.proofs.Laws.{signs}
 use borrow.Author.Needs.{needs}
 use Rattle.wire.proofs.signed_digits.Statement.{statement}
 use Rattle.wire.proofs.signed_digits.Tie as tie

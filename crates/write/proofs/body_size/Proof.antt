@@ -4,7 +4,7 @@ use Rattle.write.proofs.body_size.Statement.{statement}
 use Rattle.write.proofs.body_size.Tie as tie
 use Rattle.write.proofs.body_size.Reads as reads
 use Rattle.write.proofs.body_size.Lts as lts
-use Rattle.sums.proofs.plus.Reads as plus-reads
+use Rattle.sums.proofs.saturating_add.Reads as saturating-add-reads
 use Rattle.write.proofs.head_size.Reads as head-size-reads
 
 head-size-requires : tie.Need-head-size-requires
@@ -13,14 +13,14 @@ head-size-requires c κs = search (whole, needs)
 head-size-requires-2 : tie.Need-head-size-requires-2
 head-size-requires-2 c κs = search (whole, needs)
 
-plus-requires : tie.Need-plus-requires
-plus-requires c κs = search (whole, needs)
+saturating-add-requires : tie.Need-saturating-add-requires
+saturating-add-requires c κs = search (whole, needs)
 
-plus-requires-2 : tie.Need-plus-requires-2
-plus-requires-2 c κs = search (whole, needs)
+saturating-add-requires-2 : tie.Need-saturating-add-requires-2
+saturating-add-requires-2 c κs = search (whole, needs)
 
-plus-requires-3 : tie.Need-plus-requires-3
-plus-requires-3 c κs = search (whole, needs)
+saturating-add-requires-3 : tie.Need-saturating-add-requires-3
+saturating-add-requires-3 c κs = search (whole, needs)
 
 returns : tie.Need-returns
 returns c = search (whole, needs)
@@ -31,7 +31,7 @@ body-size-spec =
     (tie.spec
     head-size-requires
     head-size-requires-2
-    plus-requires
-    plus-requires-2
-    plus-requires-3
+    saturating-add-requires
+    saturating-add-requires-2
+    saturating-add-requires-3
     returns)

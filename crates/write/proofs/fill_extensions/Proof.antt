@@ -19,7 +19,7 @@ put-sparse-requires c κs =
     let start = c .before .before .before .before .before .before .before .before .before .before .before .before .pre in
     let head = c .before .before .before .before .before .before .before .put-tree-head .ensures in
     let tree = c .before .before .before .put-tree .ensures in
-    extensions-sparse _ _ _ _ (start .0) _ _ (start .1) _ (head .0) _ (head .1) _ (tree .0) _ (tree .1)
+    extensions-sparse _ _ _ _ _ (start .0) _ _ (start .1) _ (head .0) _ (head .1) _ (tree .0) _ (tree .1)
 
 same-length : tie.Need-same-length
 same-length c = search (whole, needs)

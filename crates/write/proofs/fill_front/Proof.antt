@@ -4,7 +4,7 @@ use Rattle.write.proofs.fill_front.Statement.{statement}
 use Rattle.write.proofs.fill_front.Tie as tie
 use Rattle.write.proofs.fill_front.Reads as reads
 use Rattle.write.proofs.fill_front.Lts as lts
-use Rattle.write.proofs.entries.put_entries.Reads as put-entries-reads
+use Rattle.write_entries.proofs.put_entries.Reads as put-entries-reads
 use Rattle.write.proofs.put_header.Reads as put-header-reads
 
 put-header-requires : tie.Need-put-header-requires

@@ -4,7 +4,7 @@ use Rattle.write.proofs.write_to.Statement.{statement}
 use Rattle.write.proofs.write_to.Tie as tie
 use Rattle.write.proofs.write_to.Reads as reads
 use Rattle.write.proofs.write_to.Lts as lts
-use Rattle.write.proofs.entries.size_entries.Reads as size-entries-reads
+use Rattle.write_entries.proofs.size_entries.Reads as size-entries-reads
 use Rattle.write.proofs.tree_fits.Reads as tree-fits-reads
 use Rattle.write.proofs.write_sized.Reads as write-sized-reads
 use Rattle.write.proofs.writes_tree.Reads as writes-tree-reads

@@ -48,7 +48,7 @@ const COMMANDS: [Command; 5] = [
     Command { name: "rewrite", operand: Some("OUT"), options: &["--no-tree", "--zero-trailer", "--drop"] },
 ];
 
-/// The words behind a command's name, sorted out.
+/// The words after a command's name, sorted out.
 #[derive(Default)]
 struct Words {
     options: Vec<&'static str>,
@@ -88,7 +88,7 @@ fn sort(command: &Command, mut words: impl Iterator<Item = OsString>) -> Result<
     Ok(sorted)
 }
 
-/// Takes one option, and the word behind it if that is its value.
+/// Takes one option, and the word after it if that is its value.
 fn option(
     command: &Command,
     word: &OsStr,

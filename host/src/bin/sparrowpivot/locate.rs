@@ -1,4 +1,4 @@
-//! The index of the repository that one stands in, found as git finds it.
+//! The index of the repository of the current folder, found as git finds it.
 use std::ffi::{OsStr, OsString};
 use std::os::unix::ffi::OsStrExt;
 use std::path::{Path, PathBuf};
@@ -12,7 +12,7 @@ pub fn locate() -> Result<PathBuf, String> {
         (Some(index), Some(_)) => Ok(set("GIT_WORK_TREE").map_or(here, PathBuf::from).join(index)),
         (None, Some(folder)) => Ok(pointed_to(Path::new(&folder))?.join("index")),
         (None, None) => match nearest(&here)? {
-            // of the repository of this folder the name is short
+            // the name is short if the repository is that of this folder
             Some(found) => Ok(found.folder.strip_prefix(&here).unwrap_or(&found.folder).join("index")),
             None => Err("there is no Git repository here or above: name an index file".into()),
         },
@@ -30,13 +30,13 @@ struct Found {
     folder: PathBuf,
 }
 
-/// The nearest repository, from a folder upwards, but in no folder that GIT_CEILING_DIRECTORIES names.
+/// The nearest repository, from a folder upwards, except in folders that GIT_CEILING_DIRECTORIES names.
 fn nearest(here: &Path) -> Result<Option<Found>, String> {
     let named = std::env::var_os("GIT_CEILING_DIRECTORIES").unwrap_or_default();
     let ceilings: Vec<PathBuf> = std::env::split_paths(&named).collect();
     for top in here.ancestors().take_while(|top| *top == here || !ceilings.iter().any(|ceiling| ceiling == top)) {
         let git = top.join(".git");
-        // a folder of that name which is none of git's is passed over
+        // a folder of that name that is not git's is passed over
         if git.join("HEAD").symlink_metadata().is_ok() || git.is_file() {
             return Ok(Some(Found { top: top.into(), folder: pointed_to(&git)? }));
         }

@@ -33,7 +33,7 @@ const HELP: &str = include_str!("help.txt");
 const VERSION: &str = concat!("sparrowpivot ", env!("CARGO_PKG_VERSION"), "\n");
 const BUFFER: usize = 1 << 16;
 
-/// Why the command ends before it is done, or with a bad word.
+/// Why the command ends before it is done, or with bad news.
 enum Stop {
     /// The command line cannot be followed.
     Usage(String),
@@ -41,7 +41,7 @@ enum Stop {
     Refused(String),
     /// What was to be said stands in the output.
     NotSound,
-    /// The output cannot be written. Whoever reads it may have had enough, which is no fault.
+    /// The output cannot be written. Its reader may have stopped early, which is no fault.
     Output(io::Error),
 }
 
@@ -54,7 +54,7 @@ impl From<io::Error> for Stop {
 fn main() -> ExitCode {
     let mut out = BufWriter::with_capacity(BUFFER, io::stdout().lock());
     let done = run(&mut out);
-    // what was written before a fault is of use too
+    // what was written before a fault is useful too
     let flushed = out.flush();
     match done.and(flushed.map_err(Stop::Output)) {
         Ok(()) => ExitCode::SUCCESS,
@@ -122,7 +122,7 @@ fn read(file: &OsStr) -> Result<Index, sparrowpivot::Error> {
     Index::from_bytes(bytes)
 }
 
-/// The entries of one path, at one stage or at all: one at least.
+/// The entries of one path, at one stage or at all of them: at least one.
 fn found<'a>(index: &'a Index, path: &[u8], stage: Option<u32>) -> Result<Vec<Entry<'a>>, Stop> {
     let refused = |why: Refusal| Stop::Refused(why.to_string());
     let stages = match stage {

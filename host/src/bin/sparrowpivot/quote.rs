@@ -1,7 +1,7 @@
 //! Paths as git prints them.
 use std::io::{self, Write};
 
-/// Writes a path as git does by default: as it is, or, if it has a byte that a line or a terminal could take amiss, in
+/// Writes a path as git does by default: as it is, or, if it has a byte that could spoil a line or a terminal, in
 /// double quotes with C's escapes.
 pub fn quoted(out: &mut impl Write, path: &[u8]) -> io::Result<()> {
     if !path.iter().any(|byte| is_odd(*byte)) {
@@ -22,7 +22,7 @@ fn is_odd(byte: u8) -> bool {
     matches!(byte, 0..=0x1f | 0x7f..=0xff | b'"' | b'\\')
 }
 
-/// The letter behind the backslash, where there is one.
+/// The letter after the backslash, where there is one.
 fn letter(byte: u8) -> Option<u8> {
     Some(match byte {
         0x07 => b'a',

@@ -9,7 +9,7 @@ use sparrowpivot::{Index, WriteOptions};
 /// The extensions that are written again, and IEOT, which is a table of places in the old file.
 const NOT_LOST: [&[u8; 4]; 4] = [b"TREE", b"sdir", b"EOIE", b"IEOT"];
 
-/// The bytes of the index written anew. Unless `drop` is said, it is refused if an extension would be lost.
+/// The bytes of the index written anew. If an extension would be lost, it is refused unless `drop` is set.
 pub fn rewritten(index: &Index, tree: bool, zero_trailer: bool, drop: bool) -> Result<Vec<u8>, String> {
     let lost = lost(index)?;
     if !drop && !lost.is_empty() {
@@ -26,7 +26,7 @@ fn lost(index: &Index) -> Result<Vec<String>, String> {
     Ok(lost.map(|extension| extension.signature.escape_ascii().to_string()).collect())
 }
 
-/// The lock that git has on a file while it writes it anew, so that git keeps away. It is gone when this goes.
+/// The lock that git holds on a file while it rewrites it, so that git keeps away. It is released when this is dropped.
 pub struct Lock {
     out: PathBuf,
     name: PathBuf,
@@ -35,7 +35,7 @@ pub struct Lock {
 }
 
 impl Lock {
-    /// Takes the lock on a file, which need not be there. Whoever writes what he reads takes it before he reads.
+    /// Takes the lock on a file, which need not exist. If what is read is to be written back, take it before reading.
     pub fn take(out: &OsStr) -> Result<Lock, String> {
         // the file itself, where its name is a link to it
         let out = fs::canonicalize(out).unwrap_or_else(|_| PathBuf::from(out));
@@ -64,7 +64,7 @@ impl Lock {
         }
         self.file.sync_all()?;
         fs::rename(&self.name, &self.out)?;
-        // a lock of this name is another's from now on
+        // from now on a lock of this name is someone else's
         self.held = false;
         Ok(())
     }

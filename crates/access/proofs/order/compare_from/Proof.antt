@@ -1,5 +1,5 @@
 -- `access::order::compare_from` meets its contract. Assumes nothing.
-use Rattle.access.specs.Laws.{laws}
+use Rattle.access.proofs.Laws.{laws}
 use borrow.Author.Needs.{needs}
 use Rattle.access.proofs.order.compare_from.Statement.{statement}
 use Rattle.access.proofs.order.compare_from.Tie as tie

@@ -1,5 +1,5 @@
 -- `access::order::compare_stages` meets its contract. Assumes nothing.
-use Rattle.access.specs.Laws.{laws}
+use Rattle.access.proofs.Laws.{laws}
 use borrow.Author.Needs.{needs}
 use Rattle.access.proofs.order.compare_stages.Statement.{statement}
 use Rattle.access.proofs.order.compare_stages.Tie as tie

@@ -1,5 +1,5 @@
 -- `access::order::pass_eights` meets its contract. Eight bytes spell equal numbers only if they are equal. Assumes nothing.
-use Rattle.access.specs.Laws.{laws, eights-next}
+use Rattle.access.proofs.Laws.{laws, eights-next}
 use Rattle.access.specs.Order.{Passed}
 use Prim.Native.Nat.{_-_, _*_, _≤_}
 use native.Mathlib.Omega.{arith}
@@ -23,11 +23,11 @@ loop-holds c = search (laws, needs)
 mul-at : tie.Need-mul-at Inv-loop μ-loop
 mul-at c = search (laws, needs)
 
-eight-at-requires : tie.Need-eight-at-requires Inv-loop μ-loop
-eight-at-requires c κs = search (laws, needs)
+be64-requires : tie.Need-be64-requires Inv-loop μ-loop
+be64-requires c κs = search (laws, needs)
 
-eight-at-requires-2 : tie.Need-eight-at-requires-2 Inv-loop μ-loop
-eight-at-requires-2 c κs = search (laws, needs)
+be64-requires-2 : tie.Need-be64-requires-2 Inv-loop μ-loop
+be64-requires-2 c κs = search (laws, needs)
 
 returns : tie.Need-returns Inv-loop μ-loop
 returns c = search (laws, needs)
@@ -40,7 +40,7 @@ loop-less c = search (laws, needs)
 
 loop-again : tie.Need-loop-again Inv-loop μ-loop
 loop-again c =
-    (search needs, search needs, search needs, eights-next _ _ _ _ (c .before .before .before .before .loop .inv .3) (c .before .before .before .before .loop .inv .0) (c .before .before .before .before .loop .inv .1) (c .before .before .before .loop-test .taken) _ _ (c .before .before .eight-at .ensures) (c .before .eight-at2 .ensures) (c .if1 .left) (λ i. omega (arith, c .before .before .before .before .before .before .before .shared-slice-known .given i)) (λ i. omega (arith, c .before .before .before .before .before .before .shared-slice-known2 .given i)))
+    (search needs, search needs, search needs, eights-next _ _ _ _ (c .before .before .before .before .loop .inv .3) (c .before .before .before .before .loop .inv .0) (c .before .before .before .before .loop .inv .1) (c .before .before .before .loop-test .taken) _ _ (c .before .before .be64 .ensures) (c .before .be642 .ensures) (c .if1 .left) (λ i. omega (arith, c .before .before .before .before .before .before .before .shared-slice-known .given i)) (λ i. omega (arith, c .before .before .before .before .before .before .shared-slice-known2 .given i)))
 
 mul-t8 : tie.Need-mul-t8 Inv-loop μ-loop
 mul-t8 c = search (laws, needs)
@@ -57,8 +57,8 @@ pass-eights-spec =
     shorter-requires
     loop-holds
     mul-at
-    eight-at-requires
-    eight-at-requires-2
+    be64-requires
+    be64-requires-2
     returns
     add-j
     loop-less

@@ -1,5 +1,5 @@
 -- `access::verify::follows` meets its contract. Assumes nothing.
-use Rattle.access.specs.Laws.{laws}
+use Rattle.access.proofs.Laws.{laws}
 use borrow.Author.Needs.{needs}
 use Rattle.access.proofs.verify.follows.Statement.{statement}
 use Rattle.access.proofs.verify.follows.Tie as tie
@@ -10,26 +10,20 @@ returns c = search (laws, needs)
 sub-before : tie.Need-sub-before
 sub-before c = search needs
 
-path-of-requires : tie.Need-path-of-requires
-path-of-requires c κs = search needs
-
-path-of-requires-2 : tie.Need-path-of-requires-2
-path-of-requires-2 c κs = search needs
-
-compare-requires : tie.Need-compare-requires
-compare-requires c κs = search needs
-
 stage-at-requires : tie.Need-stage-at-requires
 stage-at-requires c κs = search needs
 
 stage-at-requires-2 : tie.Need-stage-at-requires-2
 stage-at-requires-2 c κs = search needs
 
-compare-stages-requires : tie.Need-compare-stages-requires
-compare-stages-requires c κs = search needs
+path-of-requires : tie.Need-path-of-requires
+path-of-requires c κs = search needs
 
-then-requires : tie.Need-then-requires
-then-requires c κs = search needs
+path-of-requires-2 : tie.Need-path-of-requires-2
+path-of-requires-2 c κs = search needs
+
+placed-requires : tie.Need-placed-requires
+placed-requires c κs = search needs
 
 enum-told : tie.Need-enum-told
 enum-told c = search needs
@@ -55,13 +49,11 @@ follows-spec =
     (tie.spec
     returns
     sub-before
-    path-of-requires
-    path-of-requires-2
-    compare-requires
     stage-at-requires
     stage-at-requires-2
-    compare-stages-requires
-    then-requires
+    path-of-requires
+    path-of-requires-2
+    placed-requires
     enum-told
     enum-told-2
     enum-told-3

@@ -1,23 +1,23 @@
 -- `decode::entries::entries_block_size_in_bytes` meets its contract. Assumes nothing.
 use borrow.Author.Needs.{needs}
-use Rattle.decode.specs.Laws.{fronts}
+use Rattle.decode.proofs.Laws.{fronts}
 use Rattle.decode.proofs.entries.entries_block_size_in_bytes.Statement.{statement}
 use Rattle.decode.proofs.entries.entries_block_size_in_bytes.Tie as tie
 
 enum-known-extensions : tie.Need-enum-known-extensions
 enum-known-extensions c = search (fronts, needs)
 
-less-requires : tie.Need-less-requires
-less-requires c κs = search (fronts, needs)
+saturating-sub-requires : tie.Need-saturating-sub-requires
+saturating-sub-requires c κs = search (fronts, needs)
 
 enum-told : tie.Need-enum-told
 enum-told c = search (fronts, needs)
 
-less-requires-2 : tie.Need-less-requires-2
-less-requires-2 c κs = search (fronts, needs)
+saturating-sub-requires-2 : tie.Need-saturating-sub-requires-2
+saturating-sub-requires-2 c κs = search (fronts, needs)
 
-less-requires-3 : tie.Need-less-requires-3
-less-requires-3 c κs = search (fronts, needs)
+saturating-sub-requires-3 : tie.Need-saturating-sub-requires-3
+saturating-sub-requires-3 c κs = search (fronts, needs)
 
 returns : tie.Need-returns
 returns c = search (fronts, needs)
@@ -30,9 +30,9 @@ entries-block-size-in-bytes-spec =
     tie.close
     (tie.spec
     enum-known-extensions
-    less-requires
+    saturating-sub-requires
     enum-told
-    less-requires-2
-    less-requires-3
+    saturating-sub-requires-2
+    saturating-sub-requires-3
     returns
     returns-2)

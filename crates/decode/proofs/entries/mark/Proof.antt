@@ -1,6 +1,6 @@
 -- `decode::entries::mark` meets its contract. Assumes nothing.
 use borrow.Author.Needs.{needs}
-use Rattle.decode.specs.Laws.{laws}
+use Rattle.decode.proofs.Laws.{laws}
 use Rattle.decode.proofs.entries.mark.Statement.{statement}
 use Rattle.decode.proofs.entries.mark.Tie as tie
 

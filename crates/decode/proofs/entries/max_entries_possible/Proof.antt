@@ -1,7 +1,7 @@
 -- `decode::entries::max_entries_possible` meets its contract. Assumes nothing.
 use native.Mathlib.Omega.{arith}
 use borrow.Author.Needs.{needs}
-use Rattle.decode.specs.Laws.{least-some, fronts}
+use Rattle.decode.proofs.Laws.{least-some, fronts}
 use Rattle.decode.proofs.entries.max_entries_possible.Statement.{statement}
 use Rattle.decode.proofs.entries.max_entries_possible.Tie as tie
 

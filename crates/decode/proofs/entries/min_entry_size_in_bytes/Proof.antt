@@ -1,6 +1,6 @@
 -- `decode::entries::min_entry_size_in_bytes` meets its contract. Assumes nothing.
 use borrow.Author.Needs.{needs}
-use Rattle.decode.specs.Laws.{fronts}
+use Rattle.decode.proofs.Laws.{fronts}
 use Rattle.decode.proofs.entries.min_entry_size_in_bytes.Statement.{statement}
 use Rattle.decode.proofs.entries.min_entry_size_in_bytes.Tie as tie
 

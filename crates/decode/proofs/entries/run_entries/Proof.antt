@@ -3,16 +3,17 @@ use mathlib.Core.Path.{refl}
 use mathlib.Core.Bool.{false}
 use native.Mathlib.Omega.{arith}
 use borrow.Author.Needs.{needs}
-use Rattle.decode.specs.Laws.{State, run-size, laws}
+use Rattle.format.specs.Format.{idSize}
+use Rattle.decode.proofs.Laws.{State, run-size, laws}
 use Rattle.decode.specs.Entries.{run}
 use Rattle.decode.proofs.entries.run_entries.Statement.{statement}
 use Rattle.decode.proofs.entries.run_entries.Tie as tie
 
 abbrev Inv-loop : tie.InvT-loop
-Inv-loop file end version count index begins known records₀ paths₀ slots at₀ used₀ first₀ prev₀ sparse₀ i₀ left₀ records paths at used first prev sparse i left = State file end version records₀ paths₀ (run 20 file end version count index at₀ used₀ begins known false records₀ paths₀) left i at used first prev sparse records paths
+Inv-loop file records₀ paths₀ end version slots at₀ used₀ first₀ prev₀ sparse₀ i₀ left₀ records paths at used first prev sparse i left = State file end version records₀ paths₀ (run idSize file end version left₀ i₀ at₀ used₀ first₀ prev₀ false records₀ paths₀) left i at used first prev sparse records paths
 
 abbrev μ-loop : tie.MeasureT-loop
-μ-loop file end version count index begins known records₀ paths₀ slots at₀ used₀ first₀ prev₀ sparse₀ i₀ left₀ records paths at used first prev sparse i left = left
+μ-loop file records₀ paths₀ end version slots at₀ used₀ first₀ prev₀ sparse₀ i₀ left₀ records paths at used first prev sparse i left = left
 
 loop-holds : tie.Need-loop-holds Inv-loop μ-loop
 loop-holds c = record { within = search needs; before = search needs; records = refl; paths = refl; rest = refl }
@@ -60,7 +61,7 @@ add-size : tie.Need-add-size Inv-loop μ-loop
 add-size c =
     let at-m = c .before .before in
     let at-loop = at-m .before .before .before .before in
-    omega (arith, at-loop .before .before .before .before .good, at-loop .loop .inv .paths, run-size _ _ _ _ _ _ _ (at-loop .loop .paths) _ (at-m .before .before .measure .ensures) _ _ _ _ _ (at-m .m .given .1) (at-loop .loop .inv .before) (at-loop .loop .inv .within))
+    omega (arith, at-loop .before .before .before .before .before .before .before .good, at-loop .loop .inv .paths, run-size _ _ _ _ _ _ _ (at-loop .loop .paths) _ (at-m .before .before .measure .ensures) _ _ _ _ _ (at-m .m .given .1) (at-loop .loop .inv .before) (at-loop .loop .inv .within))
 
 sub-if2 : tie.Need-sub-if2 Inv-loop μ-loop
 sub-if2 c = search (laws, needs)
@@ -83,12 +84,12 @@ mark-requires c κs = search (laws, needs)
 add-total : tie.Need-add-total Inv-loop μ-loop
 add-total c =
     let at-loop = c .before .before .before .before .before .before .before .before .before .before .before .before .before .before .before in
-    omega (arith, at-loop .before .before .before .before .good, at-loop .loop .inv .paths, at-loop .loop .inv .within, c .before .before .before .before .before .before .before .before .if2 .left)
+    omega (arith, at-loop .before .before .before .before .before .before .before .good, at-loop .loop .inv .paths, at-loop .loop .inv .within, c .before .before .before .before .before .before .before .before .if2 .left)
 
 add-i : tie.Need-add-i Inv-loop μ-loop
 add-i c =
     let at-if = c .before .before .before .before .before .before .before .before .before in
-    omega (arith, at-if .if1 .left, at-if .before .before .before .before .before .before .before .before .before .before .good)
+    omega (arith, at-if .if1 .left, at-if .before .before .before .before .before .before .before .before .before .before .before .before .before .good)
 
 sub-left : tie.Need-sub-left Inv-loop μ-loop
 sub-left c = search (laws, needs)

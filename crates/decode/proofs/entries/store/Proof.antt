@@ -1,6 +1,6 @@
 -- `decode::entries::store` meets its contract. Assumes nothing.
 use borrow.Author.Needs.{needs}
-use Rattle.decode.specs.Laws.{laws}
+use Rattle.decode.proofs.Laws.{laws}
 use Rattle.decode.proofs.entries.store.Statement.{statement}
 use Rattle.decode.proofs.entries.store.Tie as tie
 

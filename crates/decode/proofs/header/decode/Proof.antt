@@ -1,6 +1,6 @@
 -- `decode::header::decode` meets its contract. Assumes nothing.
 use borrow.Author.Needs.{needs}
-use Rattle.decode.specs.Laws.{fronts}
+use Rattle.decode.proofs.Laws.{fronts}
 use Rattle.decode.proofs.header.decode.Statement.{statement}
 use Rattle.decode.proofs.header.decode.Tie as tie
 

@@ -1,5 +1,5 @@
 -- `entry::flags::extended_to_memory` meets its contract. Assumes nothing.
-use Rattle.entry.specs.Laws.{laws}
+use Rattle.entry.proofs.Laws.{laws}
 use borrow.Author.Needs.{needs}
 use Rattle.entry.proofs.flags.extended_to_memory.Statement.{statement}
 use Rattle.entry.proofs.flags.extended_to_memory.Tie as tie

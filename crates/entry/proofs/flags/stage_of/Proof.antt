@@ -1,5 +1,5 @@
 -- `entry::flags::stage_of` meets its contract. Assumes nothing.
-use Rattle.entry.specs.Laws.{laws}
+use Rattle.entry.proofs.Laws.{laws}
 use borrow.Author.Needs.{needs}
 use Rattle.entry.proofs.flags.stage_of.Statement.{statement}
 use Rattle.entry.proofs.flags.stage_of.Tie as tie

@@ -1,5 +1,5 @@
 -- `entry::mode::is_dir` meets its contract. Assumes nothing.
-use Rattle.entry.specs.Laws.{laws}
+use Rattle.entry.proofs.Laws.{laws}
 use borrow.Author.Needs.{needs}
 use Rattle.entry.proofs.mode.is_dir.Statement.{statement}
 use Rattle.entry.proofs.mode.is_dir.Tie as tie

@@ -1,5 +1,5 @@
 -- `entry::stat::stat_at` meets its contract. Assumes nothing.
-use Rattle.entry.specs.Laws.{laws}
+use Rattle.entry.proofs.Laws.{laws}
 use borrow.Author.Needs.{needs}
 use Rattle.entry.proofs.stat.stat_at.Statement.{statement}
 use Rattle.entry.proofs.stat.stat_at.Tie as tie

@@ -1,5 +1,5 @@
 -- `entry::stat::time_at` meets its contract. Assumes nothing.
-use Rattle.entry.specs.Laws.{time-is}
+use Rattle.entry.proofs.Laws.{time-is}
 use borrow.Author.Needs.{needs}
 use Rattle.entry.proofs.stat.time_at.Statement.{statement}
 use Rattle.entry.proofs.stat.time_at.Tie as tie

@@ -1,6 +1,6 @@
 -- `sparrowpivot::extensions::extensions_from` meets its contract. Assumes nothing.
 use borrow.Author.Needs.{needs}
-use Rattle.sparrowpivot.specs.Laws.{laws}
+use Rattle.sparrowpivot.proofs.Laws.{laws}
 use Rattle.sparrowpivot.proofs.extensions.extensions_from.Statement.{statement}
 use Rattle.sparrowpivot.proofs.extensions.extensions_from.Tie as tie
 

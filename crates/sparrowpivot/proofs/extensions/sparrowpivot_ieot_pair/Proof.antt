@@ -1,5 +1,5 @@
 -- `sparrowpivot::extensions::sparrowpivot_ieot_pair` meets its contract. Assumes nothing.
-use Rattle.sparrowpivot.specs.Laws.{laws}
+use Rattle.sparrowpivot.proofs.Laws.{laws}
 use borrow.Author.Needs.{needs}
 use Rattle.sparrowpivot.proofs.extensions.sparrowpivot_ieot_pair.Statement.{statement}
 use Rattle.sparrowpivot.proofs.extensions.sparrowpivot_ieot_pair.Tie as tie

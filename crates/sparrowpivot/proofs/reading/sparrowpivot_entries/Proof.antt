@@ -1,11 +1,11 @@
 -- `sparrowpivot::reading::sparrowpivot_entries` meets its contract. Assumes nothing.
-use Rattle.sparrowpivot.specs.Laws.{laws}
+use Rattle.sparrowpivot.proofs.Laws.{laws}
 use borrow.Author.Needs.{needs}
 use Rattle.sparrowpivot.proofs.reading.sparrowpivot_entries.Statement.{statement}
 use Rattle.sparrowpivot.proofs.reading.sparrowpivot_entries.Tie as tie
 
-before-trailer-requires : tie.Need-before-trailer-requires
-before-trailer-requires c κs = search (laws, needs)
+saturating-sub-requires : tie.Need-saturating-sub-requires
+saturating-sub-requires c κs = search (laws, needs)
 
 read-entries-requires : tie.Need-read-entries-requires
 read-entries-requires c κs = search (laws, needs)
@@ -53,7 +53,7 @@ pub sparrowpivot-entries-spec : {M : Type 1} → statement M
 sparrowpivot-entries-spec =
     tie.close
     (tie.spec
-    before-trailer-requires
+    saturating-sub-requires
     read-entries-requires
     enum-known-a
     bit-of-requires

@@ -1,5 +1,5 @@
 -- `sparrowpivot::reading::sparrowpivot_read` meets its contract. Assumes nothing.
-use Rattle.sparrowpivot.specs.Laws.{laws}
+use Rattle.sparrowpivot.proofs.Laws.{laws}
 use borrow.Author.Needs.{needs}
 use Rattle.sparrowpivot.proofs.reading.sparrowpivot_read.Statement.{statement}
 use Rattle.sparrowpivot.proofs.reading.sparrowpivot_read.Tie as tie

@@ -1,5 +1,5 @@
 -- `sparrowpivot::searching::sparrowpivot_check_order` meets its contract. Assumes nothing.
-use Rattle.sparrowpivot.specs.Laws.{laws}
+use Rattle.sparrowpivot.proofs.Laws.{laws}
 use borrow.Author.Needs.{needs}
 use Rattle.sparrowpivot.proofs.searching.sparrowpivot_check_order.Statement.{statement}
 use Rattle.sparrowpivot.proofs.searching.sparrowpivot_check_order.Tie as tie

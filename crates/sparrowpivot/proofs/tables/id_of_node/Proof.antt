@@ -1,5 +1,5 @@
 -- `sparrowpivot::tables::id_of_node` meets its contract. Assumes nothing.
-use Rattle.sparrowpivot.specs.Laws.{laws}
+use Rattle.sparrowpivot.proofs.Laws.{laws}
 use borrow.Author.Needs.{needs}
 use Rattle.sparrowpivot.proofs.tables.id_of_node.Statement.{statement}
 use Rattle.sparrowpivot.proofs.tables.id_of_node.Tie as tie

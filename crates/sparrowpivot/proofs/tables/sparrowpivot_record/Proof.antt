@@ -1,5 +1,5 @@
 -- `sparrowpivot::tables::sparrowpivot_record` meets its contract: each number is what the call that made it ensures. Assumes nothing.
-use Rattle.sparrowpivot.specs.Laws.{laws, told-record}
+use Rattle.sparrowpivot.proofs.Laws.{laws, told-record}
 use borrow.Author.Needs.{needs}
 use Rattle.sparrowpivot.proofs.tables.sparrowpivot_record.Statement.{statement}
 use Rattle.sparrowpivot.proofs.tables.sparrowpivot_record.Tie as tie

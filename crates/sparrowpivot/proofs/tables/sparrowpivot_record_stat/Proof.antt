@@ -1,5 +1,5 @@
 -- `sparrowpivot::tables::sparrowpivot_record_stat` meets its contract. Assumes nothing.
-use Rattle.sparrowpivot.specs.Laws.{laws}
+use Rattle.sparrowpivot.proofs.Laws.{laws}
 use borrow.Author.Needs.{needs}
 use Rattle.sparrowpivot.proofs.tables.sparrowpivot_record_stat.Statement.{statement}
 use Rattle.sparrowpivot.proofs.tables.sparrowpivot_record_stat.Tie as tie

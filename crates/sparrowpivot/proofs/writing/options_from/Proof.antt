@@ -1,6 +1,6 @@
 -- `sparrowpivot::writing::options_from` meets its contract. Assumes nothing.
 use borrow.Author.Needs.{needs}
-use Rattle.sparrowpivot.specs.Laws.{laws}
+use Rattle.sparrowpivot.proofs.Laws.{laws}
 use Rattle.sparrowpivot.proofs.writing.options_from.Statement.{statement}
 use Rattle.sparrowpivot.proofs.writing.options_from.Tie as tie
 

@@ -1,5 +1,5 @@
 -- `sparrowpivot::writing::sparrowpivot_write` meets its contract. Assumes nothing.
-use Rattle.sparrowpivot.specs.Laws.{laws}
+use Rattle.sparrowpivot.proofs.Laws.{laws}
 use borrow.Author.Needs.{needs}
 use Rattle.sparrowpivot.proofs.writing.sparrowpivot_write.Statement.{statement}
 use Rattle.sparrowpivot.proofs.writing.sparrowpivot_write.Tie as tie

@@ -1,0 +1,2 @@
+-- What the proofs of access cite. Assumes nothing.
+pub mod Laws

@@ -1,0 +1,129 @@
+-- WHAT A WALK THAT LOOKS FOR A SIGNATURE ANSWERS of the space behind the entries, over the signature: `SaysWalked` has one rule for each answer; the walk gives an answer of
+-- which its rule holds, and the only one (01, "Extensions" and "When the desk says no", 7 and 8). Assumes that the signature has four bytes, that the file is bytes and that
+-- the space lies in it, each a premise with a name.
+use Prim.Native.Nat.{ℕ, _+_, _≤_}
+use mathlib.Core.Path.{_≡_, refl, sym, subst}
+use mathlib.Core.Bool.{Bool}
+use mathlib.Core.List.{List}
+use mathlib.Core.Logic.{_↔_}
+use lib.ListN.{length}
+use Rattle.wire.specs.Places.{fileAt}
+use Rattle.extension.specs.Decode.{walkAt}
+use Rattle.extension.specs.Filling.{SaysWalk, is-filled, is-not-filled, is-mandatory, walk-says}
+use Rattle.extension.specs.declared.iter.Body.{Body}
+use Rattle.extension.specs.declared.iter.Body.the-variants.{Lies, Missing}
+use Rattle.extension.specs.declared.decode.Walked.{Walked}
+use Rattle.extension.specs.declared.decode.Walked.the-variants.{Filled, NotFilled, Mandatory}
+use Rattle.grammar.specs.Number.{bigEndian}
+use Rattle.grammar.specs.Extension.{Ext, Extensions, NoneSigned, LastSigned}
+use Rattle.grammar.specs.File.{Tells}
+use Rattle.grammar.specs.Fault.{stray, refused, Faulty, fault-not-spelled}
+use Rattle.grammar.specs.Unique.{extensions-unique}
+use Rattle.claims_entries.specs.Rendering.{Bytes}
+use Rattle.claims_extension.specs.Words.{bytes-within, FourBytes, signature-injective}
+use Rattle.claims_extension.specs.Said.{extensionsSpace, IsFilled, AllSpelled, HasSdir, SaysBody, says-missing, says-lies, SaysWalked, says-filled, says-not-filled, says-mandatory, one-answer}
+use Rattle.claims_extension.specs.Body.{BodyAt, body-at, refused-is-four-bytes}
+use Rattle.claims_extension.specs.Means.{body-says, mark-says, chain-fills, chain-strays, chain-refused}
+
+-- ---- what a rule tells of its answer
+
+missing : {wanted : List ℕ} {from : ℕ} {es : List Ext} → SaysBody wanted from es Missing → NoneSigned wanted es
+missing (says-missing n) = n
+
+lies : {wanted : List ℕ} {from start stop : ℕ} {es : List Ext} → SaysBody wanted from es (Lies (fileAt start) (fileAt stop)) → (body : List ℕ) × LastSigned wanted from es start body × (stop ≡ start + length body)
+lies (says-lies {body = body} l) = (body, l, refl)
+
+strayed : {wanted : List ℕ} {from place : ℕ} {xs : List ℕ} → SaysWalked wanted from xs (NotFilled (fileAt place)) → Faulty from xs (stray place)
+strayed (says-not-filled f) = f
+
+named : {wanted : List ℕ} {from n : ℕ} {xs : List ℕ} → SaysWalked wanted from xs (Mandatory n) → (signature : List ℕ) × Faulty from xs (refused signature) × (n ≡ bigEndian signature)
+named (says-mandatory {signature = signature} f) = (signature, f, refl)
+
+-- ---- the answer that is given
+
+module _ {wanted : List ℕ} (four : FourBytes wanted) (s : List ℕ) (bytes : Bytes s) (from end : ℕ) (ahead : from ≤ end) (inside : end ≤ length s) where
+  abbrev space : List ℕ
+  space = extensionsSpace s from end
+
+  -- what the reader's contract cites
+  abbrev walked : Walked
+  walked = walkAt s from end (bigEndian wanted)
+
+  -- of the answer that is given its rule holds
+  pub answer-says : SaysWalked wanted from space walked
+  answer-says = of (walk-says s from end (bigEndian wanted))
+    where
+      of : {w : Walked} → SaysWalk s from end (bigEndian wanted) w → SaysWalked wanted from space w
+      of (is-filled c n m l) = let (es, x, y) = chain-fills s bytes end inside c n in says-filled y (mark-says x m) (body-says four x l)
+      of (is-not-filled c n) = says-not-filled (chain-strays s bytes end inside ahead c n)
+      of (is-mandatory c n) = let (signature, x, e) = chain-refused s bytes end inside c n in rw e (says-mandatory x)
+
+  -- and of no other
+  pub no-second-answer : {w : Walked} → SaysWalked wanted from space w → walked ≡ w
+  no-second-answer x = one-answer answer-says x
+
+  -- where the space is spelled a mark and a body are told
+  told : (es : List Ext) → Extensions space es → (sparse : Bool) × (body : Body) × Tells (HasSdir es) sparse × SaysBody wanted from es body
+  told es x = of answer-says
+    where
+      of : {w : Walked} → SaysWalked wanted from space w → (sparse : Bool) × (body : Body) × Tells (HasSdir es) sparse × SaysBody wanted from es body
+      of (says-filled {es = fs} {sparse = sparse} {body = body} y m l) = let e : fs ≡ es = extensions-unique space fs es y x in (sparse, body, (rw e at m), (rw e at l))
+      of (says-not-filled f) = absurd (fault-not-spelled f x)
+      of (says-mandatory f) = absurd (fault-not-spelled f x)
+
+  -- ---- THE THEOREMS
+
+  pub says-exactly : (w : Walked) → (walked ≡ w) ↔ SaysWalked wanted from space w
+  says-exactly w = ((λ e. subst (SaysWalked wanted from space) e answer-says), no-second-answer)
+
+  -- the mark and the last body of the signature
+  pub filled-exactly : (es : List Ext) → Extensions space es → (sparse : Bool) (body : Body) → (walked ≡ Filled sparse body) ↔ (Tells (HasSdir es) sparse × SaysBody wanted from es body)
+  filled-exactly es x sparse body = ((λ e. of (subst (SaysWalked wanted from space) e answer-says)), (λ (m, l). no-second-answer (says-filled x m l)))
+    where
+      of : SaysWalked wanted from space (Filled sparse body) → Tells (HasSdir es) sparse × SaysBody wanted from es body
+      of (says-filled {es = fs} y m l) = let e : fs ≡ es = extensions-unique space fs es y x in ((rw e at m), (rw e at l))
+
+  -- Filled exactly if the space is spelled
+  pub filled-exactly-if-spelled : IsFilled walked ↔ AllSpelled space
+  filled-exactly-if-spelled = ((λ (sparse, body, e). of (subst (SaysWalked wanted from space) e answer-says)), (λ (es, x). let (sparse, body, m, l) = told es x in (sparse, body, no-second-answer (says-filled x m l))))
+    where
+      of : {sparse : Bool} {body : Body} → SaysWalked wanted from space (Filled sparse body) → AllSpelled space
+      of (says-filled {es = es} x m l) = (es, x)
+
+  -- marked exactly if one of them is `sdir`
+  pub marked-exactly-if-sdir : (es : List Ext) → Extensions space es → (sparse : Bool) → ((body : Body) × (walked ≡ Filled sparse body)) ↔ Tells (HasSdir es) sparse
+  marked-exactly-if-sdir es x sparse = ((λ (body, e). filled-exactly es x sparse body .0 e .0), (λ m. let (a, body, n, l) = told es x in (body, no-second-answer (says-filled x m l))))
+
+  -- no body exactly if none of them has the signature
+  pub missing-exactly-if-none-signed : (es : List Ext) → Extensions space es → ((sparse : Bool) × (walked ≡ Filled sparse Missing)) ↔ NoneSigned wanted es
+  missing-exactly-if-none-signed es x =
+      ((λ (sparse, e). missing (filled-exactly es x sparse Missing .0 e .1)), (λ n. let (sparse, body, m, l) = told es x in (sparse, no-second-answer (says-filled x m (says-missing n)))))
+
+  -- a body exactly where the last of them has it
+  pub lies-exactly-where-the-last-lies : (es : List Ext) → Extensions space es → (start stop : ℕ)
+      → ((sparse : Bool) × (walked ≡ Filled sparse (Lies (fileAt start) (fileAt stop)))) ↔ ((body : List ℕ) × LastSigned wanted from es start body × (stop ≡ start + length body))
+  lies-exactly-where-the-last-lies es x start stop = (
+    (λ (sparse, e). lies (filled-exactly es x sparse (Lies (fileAt start) (fileAt stop)) .0 e .1)),
+    (λ (body, l, i). let (sparse, b, m, k) = told es x in (sparse, rw i (no-second-answer (says-filled x m (says-lies l))))),
+  )
+
+  -- and that body is the bytes of the file there
+  pub body-is-the-bytes : (es : List Ext) → Extensions space es → (place : ℕ) (body : List ℕ) → LastSigned wanted from es place body → BodyAt s end place body
+  body-is-the-bytes es x place body l = body-at s from end ahead inside x l
+
+  -- 7: the space is not exactly filled, from this place on
+  pub refusal-7-exactly : (place : ℕ) → (walked ≡ NotFilled (fileAt place)) ↔ Faulty from space (stray place)
+  refusal-7-exactly place = ((λ e. strayed (subst (SaysWalked wanted from space) e answer-says)), (λ f. no-second-answer (says-not-filled f)))
+
+  -- 8: an extension that may not stand, with its signature as a number
+  pub refusal-8-exactly : (n : ℕ) → (walked ≡ Mandatory n) ↔ ((signature : List ℕ) × Faulty from space (refused signature) × (n ≡ bigEndian signature))
+  refusal-8-exactly n = ((λ e. named (subst (SaysWalked wanted from space) e answer-says)), (λ (signature, f, i). rw i (no-second-answer (says-mandatory f))))
+
+  -- the same, by the signature's four bytes
+  pub refusal-8-names-the-signature : (signature : List ℕ) → FourBytes signature → (walked ≡ Mandatory (bigEndian signature)) ↔ Faulty from space (refused signature)
+  refusal-8-names-the-signature signature is-four = (
+    (λ e.
+        let (other, f, i) = refusal-8-exactly (bigEndian signature) .0 e in
+        subst (λ (a : List ℕ). Faulty from space (refused a)) (signature-injective (refused-is-four-bytes (bytes-within s from end bytes) f) is-four (sym i)) f),
+    (λ f. no-second-answer (says-mandatory f)),
+  )

@@ -1,0 +1,2 @@
+-- What the proofs of decode cite. Assumes nothing.
+pub mod Laws

@@ -1,0 +1,2 @@
+-- What the proofs of entry cite. Assumes nothing.
+pub mod Laws

@@ -1,0 +1,2 @@
+-- What the proofs of file cite. Assumes nothing.
+pub mod Laws

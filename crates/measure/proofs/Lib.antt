@@ -1,0 +1,2 @@
+-- What the proofs of measure cite. Assumes nothing.
+pub mod Laws

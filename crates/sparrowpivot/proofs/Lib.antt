@@ -1,0 +1,2 @@
+-- What the proofs of sparrowpivot cite. Assumes nothing.
+pub mod Laws

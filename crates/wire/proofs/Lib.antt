@@ -1,0 +1,2 @@
+-- What the proofs of wire cite. Assumes nothing.
+pub mod Laws
