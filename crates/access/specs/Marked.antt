@@ -6,6 +6,7 @@ use Prim.Native.Nat.{ℕ, _*_}
 use lib.ListN.{replicate}
 use Rattle.wire.specs.BigEndian as wire
 use Rattle.laws.specs.Order as laws
+use Rattle.format.specs.Format.{idSize, fieldsSize}
 use Rattle.entry.specs.Mode as mode
 use Rattle.entry.specs.Record.{recordOf, frontOf, restOf, fieldAt, liesInside, pathAt}
 use Rattle.access.specs.Verify.{followsAt, verifyFrom, verifyAt}
@@ -15,7 +16,7 @@ use Rattle.access.specs.declared.Found.the-variants.{At, Absent}
 
 -- a record of zeros but for its stage and its path's place
 unfoldable pub row : ℕ → ℕ → ℕ → List ℕ
-row stage start end = recordOf 20 (replicate 60 0) 0 (stage * 4096) start end
+row stage start end = recordOf idSize (replicate fieldsSize 0) 0 (stage * 4096) start end
 
 unfoldable pub table : List ℕ
 table = row 0 0 1 ++ row 2 1 2 ++ row 0 2 5

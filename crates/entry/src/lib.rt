@@ -19,7 +19,7 @@ pub const RECORD_SIZE: usize = 96;
 // Where the parts of a record start. As far as the id they stand as in the entry; zeros fill the room of an id.
 const ID_AT: usize = 40;
 
-const ZEROS_AT: usize = 60;
+const ZEROS_AT: usize = ID_AT + format::ID_SIZE;
 
 const FLAGS_AT: usize = 72;
 
