@@ -18,10 +18,10 @@ use Rattle.sha1.specs.Length.{length-sha1}
 use Rattle.sha1.specs.Pieces.{digestAfter, fed, finished, fedAll}
 use Rattle.sha1.specs.Theorems.{pieces-finish}
 use Rattle.sha1.specs.declared.Digest.{Digest}
-use Rattle.extension.specs.Signatures.{sdir, firstByte, IEOT, EOIE}
+use Rattle.extension.specs.Signatures.{TREE, sdir, firstByte, IEOT, EOIE}
 use Rattle.extension.specs.Iter.{extensionAt, stepAt, Run, runAt, firstWhere, lastWhere, firstAt}
 use Rattle.extension.specs.Theorems.{Met, met, Tabled, tabled, run-done, run-broken, run-more}
-use Rattle.extension.specs.Decode.{mandatory, forbidden, marks, latest, sparseIn, judged, walkFrom}
+use Rattle.extension.specs.Decode.{mandatory, forbidden, marks, latest, latestOf, sparseIn, judged, walkFrom}
 use Rattle.extension.specs.IndexEntryOffsetTable.{tableAt, pairIn, tableIn, tableFrom, pairFrom}
 use Rattle.extension.specs.EndOfIndexEntry.{headersOf, lastBody, priorAt, verifiedAt, offsetAt, offsetIn}
 use Rattle.extension.specs.declared.end_of_index_entry.Prior.{Prior}
@@ -32,6 +32,7 @@ use Rattle.extension.specs.declared.iter.Step.{Step}
 use Rattle.extension.specs.declared.iter.Step.the-variants.{Extension, Done, Broken}
 use Rattle.extension.specs.declared.iter.Body.{Body}
 use Rattle.extension.specs.declared.iter.Body.the-variants.{Lies, Missing}
+use Rattle.extension.specs.declared.decode.Bodies.{Bodies}
 use Rattle.extension.specs.declared.decode.Walked.{Walked}
 use Rattle.extension.specs.declared.decode.Walked.the-variants.{Filled, NotFilled, Mandatory}
 use Rattle.extension.specs.declared.index_entry_offset_table.Table.{Table}
@@ -104,8 +105,8 @@ pub ruleset firsts = (step-less, first-done, first-broken, first-here, first-nex
 
 -- ---- the walk: what is left of it, from the present cursor, comes to r
 
-module _ (s : List ℕ) (c : Cursor) (x : Step) (e : x ≡ stepAt s (c .at .0) (c .end .0)) (wanted : ℕ) (sparse : Bool) (last : Body) (r : Walked)
-    (inv : walkFrom wanted sparse last (runAt s (c .at .0) (c .end .0)) ≡ r) where
+module _ (s : List ℕ) (c : Cursor) (x : Step) (e : x ≡ stepAt s (c .at .0) (c .end .0)) (sparse : Bool) (last : Bodies) (r : Walked)
+    (inv : walkFrom sparse last (runAt s (c .at .0) (c .end .0)) ≡ r) where
   pub walk-done : x ≡ Done → Filled sparse last ≡ r
   unfolding judged sparseIn lastWhere
   walk-done q = sym (rw (run-done s (c .at .0) (c .end .0) (sym e ∙ q))) ∙ inv
@@ -119,8 +120,8 @@ module _ (s : List ℕ) (c : Cursor) (x : Step) (e : x ≡ stepAt s (c .at .0) (
     unfolding judged
     walk-forbidden y = sym (rw (run-more s (c .at .0) (c .end .0) (sym e ∙ q), ← o, y)) ∙ inv
 
-    pub walk-next : t ≡ false → (sparse′ : Bool) (last′ : Body) → sparse′ ≡ marks signature sparse → last′ ≡ latest wanted signature start stop last
-        → walkFrom wanted sparse′ last′ (runAt s (next .at .0) (next .end .0)) ≡ r
+    pub walk-next : t ≡ false → (sparse′ : Bool) (last′ : Bodies) → sparse′ ≡ marks signature sparse → last′ ≡ latestOf signature start stop last
+        → walkFrom sparse′ last′ (runAt s (next .at .0) (next .end .0)) ≡ r
     unfolding judged sparseIn lastWhere
     walk-next y sparse′ last′ a b =
         let f : Met s (c .at .0) (c .end .0) signature start stop next = met s (c .at .0) (c .end .0) (sym e ∙ q) in
@@ -162,7 +163,10 @@ module _ (wanted signature : ℕ) (start stop : FileAt) (last : Body) where
   pub latest-before : (signature ≡ wanted → ⊥) → last ≡ latest wanted signature start stop last
   latest-before w = sym (rw (ne-eqb signature wanted w))
 
-pub ruleset walks = (step-less, walk-done, walk-broken, walk-forbidden, walk-next, mandatory-under, mandatory-over, mandatory-is, forbidden-sdir, forbidden-other, forbidden-not, marks-sdir, marks-other, latest-this, latest-before)
+pub latest-bodies : (signature : ℕ) (start stop : FileAt) (last : Bodies) (tree : Body) → tree ≡ latest TREE signature start stop (last .tree) → record { tree = tree } ≡ latestOf signature start stop last
+latest-bodies signature start stop last tree e = λ i. record { tree = e i }
+
+pub ruleset walks = (latest-bodies, step-less, walk-done, walk-broken, walk-forbidden, walk-next, mandatory-under, mandatory-over, mandatory-is, forbidden-sdir, forbidden-other, forbidden-not, marks-sdir, marks-other, latest-this, latest-before)
 
 -- ---- IEOT
 

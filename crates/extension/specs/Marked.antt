@@ -8,6 +8,7 @@ use Rattle.slices.specs.Bytes.{sameBytes}
 use Rattle.wire.specs.BigEndian.{beAt, bytesOf}
 use Rattle.wire.specs.Places.{fileAt}
 use Rattle.sha1.specs.Sha1.{rotl, ch, parity, maj, mixOf, constOf, zerosOf, padding, initial, wordsOf, nextWord, extend, schedule, turn, rounds, added, compress, hashBlocks, digestOf, sha1}
+use Rattle.format.specs.Format.{idSize, headerSize}
 use Rattle.extension.specs.Signatures.{TREE, sdir, IEOT, EOIE}
 use Rattle.extension.specs.Iter.{stepAt, runBy, runAt, firstWhere, lastWhere, firstAt}
 use Rattle.extension.specs.Decode.{mandatory, forbidden, sparseIn, judged, walkAt, numberOf, carriedOf}
@@ -38,18 +39,18 @@ ext signature body = sized signature (length body) body
 
 -- a file whose extensions begin at 12, with a trailer of zeros
 pub fileOf : List ℕ → List ℕ
-fileOf space = replicate 12 0 ++ space ++ replicate 20 0
+fileOf space = replicate headerSize 0 ++ space ++ replicate idSize 0
 
 pub walked : List ℕ → Walked
-walked space = walkAt (fileOf space) 12 (length (fileOf space) - 20) TREE
+walked space = walkAt (fileOf space) headerSize (length (fileOf space) - idSize)
 
 -- ---- the space behind the entries
 
 pub record Space : Type 0 where
   -- nothing at all
-  pub empty : walked [] ≡ Filled false Missing
+  pub empty : walked [] ≡ Filled false (record { tree = Missing })
   -- two TREEs, an `sdir` between them and an unknown optional one behind: sparse, and the last TREE counts
-  pub several : walked (ext TREE (1 ∷ 2 ∷ []) ++ ext sdir [] ++ ext TREE (3 ∷ []) ++ ext ABCD []) ≡ Filled true (Lies (fileAt 38) (fileAt 39))
+  pub several : walked (ext TREE (1 ∷ 2 ∷ []) ++ ext sdir [] ++ ext TREE (3 ∷ []) ++ ext ABCD []) ≡ Filled true (record { tree = Lies (fileAt 38) (fileAt 39) })
   -- a size that runs one byte into the trailer
   pub overrun : walked (sized ABCD 1 []) ≡ NotFilled (fileAt 12)
   -- one stray byte, behind nothing and behind an extension

@@ -19,10 +19,9 @@ use Rattle.decode.specs.declared.header.Header.the-variants.{Opens, ShortFile, 
 use Rattle.decode.specs.Entries as entries
 use Rattle.decode.specs.declared.entries.Answer.{Answer as Ran}
 use Rattle.decode.specs.declared.entries.Answer.the-variants as ran
-use Rattle.extension.specs.Signatures.{TREE}
 use Rattle.extension.specs.Decode.{walkAt}
-use Rattle.extension.specs.declared.iter.Body.{Body}
 use Rattle.extension.specs.declared.iter.Body.the-variants.{Lies, Missing}
+use Rattle.extension.specs.declared.decode.Bodies.{Bodies}
 use Rattle.extension.specs.declared.decode.Walked.{Walked}
 use Rattle.extension.specs.declared.decode.Walked.the-variants as walked
 use Rattle.tree.specs.Tree.{readTree}
@@ -47,7 +46,7 @@ pub tree-malformed : (e : Entries) (t : TreeAnswer) → t ≡ grown.Malformed �
 tree-malformed e t q = sym (rw q)
 
 -- ---- the extensions
-module _ (s : List ℕ) (next end : FileAt) (e : Entries) (ns : List ℕ) (w : Walked) (ew : w ≡ walkAt s (next .0) (end .0) TREE) where
+module _ (s : List ℕ) (next end : FileAt) (e : Entries) (ns : List ℕ) (w : Walked) (ew : w ≡ walkAt s (next .0) (end .0)) where
   walked-to : extensionsInto idSize depthLimit s (next .0) (end .0) e ns ≡ onWalked idSize depthLimit s e ns w
   unfolding extensionsInto
   walked-to = rw ew
@@ -58,11 +57,11 @@ module _ (s : List ℕ) (next end : FileAt) (e : Entries) (ns : List ℕ) (w : W
   pub mandatory : (sig : ℕ) → w ≡ walked.Mandatory sig → (answer.Mandatory sig, ns) ≡ extensionsInto idSize depthLimit s (next .0) (end .0) e ns
   mandatory sig q = sym (walked-to ∙ rw q)
 
-  module _ (mark : Bool) (body : Body) (q : w ≡ walked.Filled mark body) (all : Entries) (ea : all ≡ marked e mark) (a : Answer) where
-    pub no-tree : body ≡ Missing → a ≡ withTree all grown.Malformed → (a, ns) ≡ extensionsInto idSize depthLimit s (next .0) (end .0) e ns
+  module _ (mark : Bool) (bodies : Bodies) (q : w ≡ walked.Filled mark bodies) (all : Entries) (ea : all ≡ marked e mark) (a : Answer) where
+    pub no-tree : bodies .tree ≡ Missing → a ≡ withTree all grown.Malformed → (a, ns) ≡ extensionsInto idSize depthLimit s (next .0) (end .0) e ns
     no-tree b f = ap (λ (x : Answer). (x, ns)) (f ∙ ap (λ (x : Entries). withTree x grown.Malformed) ea) ∙ sym (walked-to ∙ rw (q, b))
 
-    pub last-tree : (start stop : FileAt) → body ≡ Lies start stop → (t : TreeAnswer) (ms : List ℕ) → (t, ms) ≡ readTree idSize depthLimit s (start .0) (stop .0) ns → a ≡ withTree all t
+    pub last-tree : (start stop : FileAt) → bodies .tree ≡ Lies start stop → (t : TreeAnswer) (ms : List ℕ) → (t, ms) ≡ readTree idSize depthLimit s (start .0) (stop .0) ns → a ≡ withTree all t
         → (a, ms) ≡ extensionsInto idSize depthLimit s (next .0) (end .0) e ns
     last-tree start stop b t ms g f = ap (λ (x : Answer). (x, ms)) (f ∙ ap (λ (x : Entries). withTree x t) ea) ∙ sym (walked-to ∙ rw (q, b, ← g))
 

@@ -14,8 +14,8 @@ use Rattle.decode.specs.Entries as entries
 use Rattle.decode.specs.declared.entries.Before.{Before}
 use Rattle.decode.specs.declared.entries.Answer.{Answer as Ran}
 use Rattle.decode.specs.declared.entries.Answer.the-variants as ran
-use Rattle.extension.specs.Signatures.{TREE}
 use Rattle.extension.specs.Decode.{walkAt}
+use Rattle.extension.specs.declared.iter.Body.{Body}
 use Rattle.extension.specs.declared.iter.Body.the-variants.{Lies, Missing}
 use Rattle.extension.specs.declared.decode.Walked.{Walked}
 use Rattle.extension.specs.declared.decode.Walked.the-variants as walked
@@ -54,16 +54,20 @@ marked e mark = record { version = e .version; sparse = pick mark true (e .spars
 abbrev pub grownInto : Entries → TreeAnswer × List ℕ → Answer × List ℕ
 grownInto e (t, ns) = (withTree e t, ns)
 
--- the extensions, from the last entry on: the last TREE's nodes go to the node store
+-- the last TREE's nodes go to the node store
+abbrev pub onTree : ℕ → ℕ → List ℕ → Entries → List ℕ → Body → Answer × List ℕ
+onTree id limit s e ns Missing = (readWith e false 0, ns)
+onTree id limit s e ns (Lies start stop) = grownInto e (readTree id limit s (start .0) (stop .0) ns)
+
+-- the extensions, from the last entry on
 abbrev pub onWalked : ℕ → ℕ → List ℕ → Entries → List ℕ → Walked → Answer × List ℕ
-onWalked id limit s e ns (walked.Filled mark Missing) = (readWith (marked e mark) false 0, ns)
-onWalked id limit s e ns (walked.Filled mark (Lies start stop)) = grownInto (marked e mark) (readTree id limit s (start .0) (stop .0) ns)
+onWalked id limit s e ns (walked.Filled mark bodies) = onTree id limit s (marked e mark) ns (bodies .tree)
 onWalked id limit s e ns (walked.NotFilled place) = (answer.NotFilled (place .0), ns)
 onWalked id limit s e ns (walked.Mandatory signature) = (answer.Mandatory signature, ns)
 
 -- they fill the space from `next` to `end`
 unfoldable pub extensionsInto : ℕ → ℕ → List ℕ → ℕ → ℕ → Entries → List ℕ → Answer × List ℕ
-extensionsInto id limit s next end e ns = onWalked id limit s e ns (walkAt s next end TREE)
+extensionsInto id limit s next end e ns = onWalked id limit s e ns (walkAt s next end)
 
 abbrev pub withNodes : List ℕ → List ℕ → Answer × List ℕ → Outcome
 withNodes rs ps (a, ns) = outcome a rs ps ns

@@ -183,12 +183,16 @@ fn with_tree(e: Entries, t: TreeAnswer) -> Answer
 fn read_extensions(file: &[u8], next: FileAt, end: FileAt, e: Entries, nodes: &mut [u8]) -> Answer
     ensures { λ r. ⌜ (r, now (nodes .exit)) ≡ extensionsInto idSize depthLimit (now (file .entry)) (next .0) (end .0) e (now (nodes .entry)) ⌝ }
 {
-    let w = extension::decode::walk(file, next, end, extension::TREE);
+    let w = extension::decode::walk(file, next, end);
     match w {
         Walked::NotFilled(place) => Answer::NotFilled(place.0),
         Walked::Mandatory(signature) => Answer::Mandatory(signature),
-        Walked::Filled { sparse: mark, body } => {
+        Walked::Filled {
+            sparse: mark,
+            bodies,
+        } => {
             let all = marked_by(e, mark);
+            let body = bodies.tree;
             match body {
                 Body::Missing => with_tree(all, TreeAnswer::Malformed),
                 Body::Lies { start, stop } => {

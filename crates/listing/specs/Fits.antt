@@ -43,7 +43,7 @@ use Rattle.tree.specs.Tree.{readTree}
 use Rattle.tree.specs.declared.TreeAnswer.{TreeAnswer}
 use Rattle.tree.specs.declared.TreeAnswer.the-variants as grown
 use Rattle.file.specs.Answer.{numberOf, carriesOf, valueOf}
-use Rattle.file.specs.Read.{Outcome, outcome, marked, grownInto, onWalked, extensionsInto, nothingBefore, onEntries, afterEntries, entriesInto, onHeader, readFile}
+use Rattle.file.specs.Read.{Outcome, outcome, marked, grownInto, onTree, onWalked, extensionsInto, nothingBefore, onEntries, afterEntries, entriesInto, onHeader, readFile}
 use Rattle.file.specs.Trailer.{goodTrailer}
 use Rattle.file.specs.declared.Entries.{Entries}
 use Rattle.file.specs.declared.Answer.{Answer}
@@ -179,22 +179,25 @@ module _ (s : List ℕ) (bytes : (i : ℕ) → getD s i 0 < 256) (m : ℕ) (line
     tree-fits e fit (grown.NoRoom, ns) = refusal-fits answer.NoNodeRoom (λ z. omega arith) (lit≤ tt) (lit≤ tt)
 
     module _ (e : Entries) (fit : length (linesFrom idSize rs ps (e .records) 0) ≤ m) (next : ℕ) (inside : next ≤ length s - idSize) (small : length s ≤ most) (ns : List ℕ) where
-      walked-fits : (w : Walked) → walkAt s next (length s - idSize) TREE ≡ w → Fits (onWalked idSize depthLimit s e ns w .0)
+      walked-fits : (w : Walked) → walkAt s next (length s - idSize) ≡ w → Fits (onWalked idSize depthLimit s e ns w .0)
       unfolding textOf
-      walked-fits (walked.Filled mark Missing) q = fit
-      walked-fits (walked.Filled mark (Lies start stop)) q = tree-fits (marked e mark) fit (readTree idSize depthLimit s (start .0) (stop .0) ns)
+      walked-fits (walked.Filled mark bodies) q = body-fits (bodies .tree)
+        where
+          body-fits : (b : Body) → Fits (onTree idSize depthLimit s (marked e mark) ns b .0)
+          body-fits Missing = fit
+          body-fits (Lies start stop) = tree-fits (marked e mark) fit (readTree idSize depthLimit s (start .0) (stop .0) ns)
       walked-fits (walked.NotFilled place) q =
-          let (a, b) = fault-inside s next (length s - idSize) TREE place q inside (omega arith) in
+          let (a, b) = fault-inside s next (length s - idSize) place q inside (omega arith) in
           refusal-fits (answer.NotFilled (place .0)) (λ z. omega arith) (lit≤ tt) (omega (arith, b))
       walked-fits (walked.Mandatory signature) q =
-          refusal-fits (answer.Mandatory signature) (λ z. omega arith) (lit≤ tt) (by (subst (SaysWalk s next (length s - idSize) TREE) q (walk-says s next (length s - idSize) TREE)))
+          refusal-fits (answer.Mandatory signature) (λ z. omega arith) (lit≤ tt) (by (subst (SaysWalk s next (length s - idSize)) q (walk-says s next (length s - idSize))))
         where
-          by : {v : ℕ} → SaysWalk s next (length s - idSize) TREE (walked.Mandatory v) → v ≤ most
+          by : {v : ℕ} → SaysWalk s next (length s - idSize) (walked.Mandatory v) → v ≤ most
           by (is-mandatory c f) = mandatory-small c f
 
       extensions-fit : Fits (extensionsInto idSize depthLimit s next (length s - idSize) e ns .0)
       unfolding extensionsInto
-      extensions-fit = walked-fits (walkAt s next (length s - idSize) TREE) refl
+      extensions-fit = walked-fits (walkAt s next (length s - idSize)) refl
 
   -- ---- the whole file, into any stores that have no more room than there is for their lines
 

@@ -1,4 +1,4 @@
--- `extension::decode::walk` meets its contract. The invariant: what is left to walk, after the mark and the last body so far, comes to what the whole does; the measure is what is left of the space. Assumes nothing.
+-- `extension::decode::walk` meets its contract. The invariant: what is left to walk, after the mark and the bodies so far, comes to what the whole does; the measure is what is left of the space. Assumes nothing.
 use Prim.Native.Nat.{_-_}
 use mathlib.Core.Path.{_≡_}
 use Rattle.extension.specs.Iter.{runAt}
@@ -9,10 +9,10 @@ use Rattle.extension.proofs.decode.walk.Statement.{statement}
 use Rattle.extension.proofs.decode.walk.Tie as tie
 
 abbrev Inv-loop : tie.InvT-loop
-Inv-loop file wanted here₀ sparse₀ last₀ here sparse last = walkFrom wanted sparse last (runAt file (here .at .0) (here .end .0)) ≡ walkAt file (here₀ .at .0) (here₀ .end .0) wanted
+Inv-loop file here₀ sparse₀ bodies₀ here sparse bodies = walkFrom sparse bodies (runAt file (here .at .0) (here .end .0)) ≡ walkAt file (here₀ .at .0) (here₀ .end .0)
 
 abbrev μ-loop : tie.MeasureT-loop
-μ-loop file wanted here₀ sparse₀ last₀ here sparse last = here .end .0 - here .at .0
+μ-loop file here₀ sparse₀ bodies₀ here sparse bodies = here .end .0 - here .at .0
 
 loop-holds : tie.Need-loop-holds Inv-loop μ-loop
 unfolding walkAt
@@ -45,8 +45,8 @@ returns-3 c = search (walks, needs)
 mark-requires : tie.Need-mark-requires Inv-loop μ-loop
 mark-requires c κs = search (walks, needs)
 
-later-requires : tie.Need-later-requires Inv-loop μ-loop
-later-requires c κs = search (walks, needs)
+latest-requires : tie.Need-latest-requires Inv-loop μ-loop
+latest-requires c κs = search (walks, needs)
 
 loop-less : tie.Need-loop-less Inv-loop μ-loop
 loop-less c = search (walks, needs)
@@ -70,6 +70,6 @@ walk-spec =
     is-forbidden-requires
     returns-3
     mark-requires
-    later-requires
+    latest-requires
     loop-less
     loop-again)
