@@ -30,11 +30,11 @@ use Rattle.decode.specs.Entries as entries
 use Rattle.decode.specs.Stores.{Ran, done, unspelled, full, stored, ran, reached, lengths-kept, Reaches, done-reaches, read-is-run}
 use Rattle.decode.specs.declared.entries.Answer.{Answer as Stopped}
 use Rattle.decode.specs.declared.entries.Answer.the-variants.{Done, NotSpelled, NoRoom}
-use Rattle.extension.specs.Signatures.{TREE}
 use Rattle.extension.specs.Decode.{walkAt}
 use Rattle.extension.specs.Theorems.{by-less, by-same, Chain, chain-more}
 use Rattle.extension.specs.Iter.{Found, Ending}
 use Rattle.extension.specs.Filling.{FirstForbidden, refused-here, refused-later, SaysWalk, is-mandatory, walk-says, fault-inside}
+use Rattle.extension.specs.declared.iter.Body.{Body}
 use Rattle.extension.specs.declared.iter.Body.the-variants.{Lies, Missing}
 use Rattle.extension.specs.declared.decode.Walked.{Walked}
 use Rattle.extension.specs.declared.decode.Walked.the-variants as walked
