@@ -12,7 +12,7 @@ use lib.Seq.{take-all, getD-take, length-take-le, take-append-le, drop-append-le
 use borrow.Author.Tests.{lt-ltb}
 use Rattle.laws.specs.Tests.{lt-or-ge}
 use Rattle.wire.specs.BigEndian.{beAt, be-same}
-use Rattle.format.specs.Format.{idSize}
+use Rattle.format.specs.Format.{idSize, idRoom}
 use Rattle.entry.specs.Layout.{recordSize, modePlace, idPlace, flagsPlace, startPlace, endPlace}
 use Rattle.entry.specs.Flags.{stageRaw}
 use Rattle.entry.specs.Record.{recordsIn, fieldAt, flagsAt, idAt, liesInside, pathAt}
@@ -142,7 +142,7 @@ module _ (n : ℕ) (ns : List ℕ) (i : ℕ) (h : i < n) where
         counts = word-first node.countPlace (lit≤ tt) ∙ x .counts;
         subtrees-there = word-first node.subtreesPlace (lit≤ tt) ∙ x .subtrees-there;
         parented = word-first node.parentPlace (lit≤ tt) ∙ x .parented;
-        identified = node-id-first node.idRoom (lit≤ tt) ∙ x .identified;
+        identified = node-id-first idRoom (lit≤ tt) ∙ x .identified;
       }
 
 module _ (n : ℕ) (s ns : List ℕ) where

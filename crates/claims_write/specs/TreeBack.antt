@@ -14,11 +14,11 @@ use lib.Seq.{take-append-le, drop-append-le}
 use borrow.Author.Tests.{lt-ltb, eq-eqb}
 use Rattle.laws.specs.Pick.{pick}
 use Rattle.laws.specs.Tests.{tri, Same, same, differs, same?}
-use Rattle.format.specs.Format.{idSize, depthLimit}
+use Rattle.format.specs.Format.{idSize, depthLimit, idRoom}
 use Rattle.wire.specs.BigEndian.{be-left}
 use Rattle.sha1.specs.Sha1.{sha1}
 use Rattle.node.specs.Head.{minusOne}
-use Rattle.node.specs.Store.{idRoom, nodesIn, wordAt, parentAt, idAt, partOf, nameAt}
+use Rattle.node.specs.Store.{nodesIn, wordAt, parentAt, idAt, partOf, nameAt}
 use Rattle.tree_write.specs.Kids.{Mem, here, there}
 use Rattle.write.specs.declared.Options.{Options}
 use Rattle.write.specs.declared.Answer.the-variants.{Done}

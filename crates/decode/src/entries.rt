@@ -3,8 +3,7 @@
 ghost use mathlib.Core.Path.{_≡_};
 ghost use Prim.Native.Nat.{_+_, _-_, _*_, _≤_};
 ghost use lib.ListN.{length};
-ghost use Rattle.format.specs.Format.{idSize};
-ghost use Rattle.entry.specs.Layout.{idRoom};
+ghost use Rattle.format.specs.Format.{idSize, idRoom};
 ghost use Rattle.decode.specs.Bounds.{blockSize, minEntrySize, maxEntries};
 ghost use Rattle.decode.specs.Entries.{RoomFor, withRecord, withPath, marked, least, outcome, runOf, readEntries};
 use measure::Measured;

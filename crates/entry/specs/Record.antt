@@ -8,8 +8,9 @@ use lib.Dec.{leb, ltb}
 use lib.Seq.{paste}
 use Rattle.laws.specs.Pick.{pick}
 use Rattle.wire.specs.BigEndian.{beAt, bytesOf}
+use Rattle.format.specs.Format.{idRoom}
 use Rattle.entry.specs.Flags.{stageRaw}
-use Rattle.entry.specs.Layout.{recordSize, idRoom, modePlace, uidPlace, idPlace, flagsPlace, startPlace, endPlace}
+use Rattle.entry.specs.Layout.{recordSize, modePlace, uidPlace, idPlace, flagsPlace, startPlace, endPlace}
 use Rattle.entry.specs.Mode.{modeIn}
 
 -- how many records a table has: bytes behind the last whole record are none

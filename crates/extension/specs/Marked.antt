@@ -9,6 +9,7 @@ use Rattle.wire.specs.BigEndian.{beAt, bytesOf}
 use Rattle.wire.specs.Places.{fileAt}
 use Rattle.sha1.specs.Sha1.{rotl, ch, parity, maj, mixOf, constOf, zerosOf, padding, initial, wordsOf, nextWord, extend, schedule, turn, rounds, added, compress, hashBlocks, digestOf, sha1}
 use Rattle.format.specs.Format.{idSize, headerSize}
+use Rattle.kind.specs.Sha1.{sha1Kind}
 use Rattle.extension.specs.Signatures.{TREE, sdir, IEOT, EOIE}
 use Rattle.extension.specs.Iter.{stepAt, runBy, runAt, firstWhere, lastWhere, firstAt}
 use Rattle.extension.specs.Decode.{mandatory, forbidden, sparseIn, judged, walkAt, numberOf, carriedOf}
@@ -127,10 +128,10 @@ pub ending : ℕ → List ℕ
 ending offset = fileOf (ext 1094795585 (replicate 56 0) ++ ext EOIE (bytesOf 4 offset ++ hash))
 
 pub record Endings : Type 0 where
-  pub told : offsetIn 20 sha1 (ending 12) ≡ To (fileAt 12)
-  pub low : offsetIn 20 sha1 (ending 11) ≡ Nothing
-  pub high : offsetIn 20 sha1 (ending 77) ≡ Nothing
-  pub short : offsetIn 20 sha1 (replicate 51 0) ≡ Nothing
+  pub told : offsetIn sha1Kind (ending 12) ≡ To (fileAt 12)
+  pub low : offsetIn sha1Kind (ending 11) ≡ Nothing
+  pub high : offsetIn sha1Kind (ending 77) ≡ Nothing
+  pub short : offsetIn sha1Kind (replicate 51 0) ≡ Nothing
 
 pub endings : Endings
 unfolding ending hash fileOf ext sized bytesOf beAt offsetIn offsetAt verifiedAt headersOf flatten lastWhere runAt runBy stepAt sameBytes rotl ch parity maj mixOf constOf zerosOf padding initial wordsOf nextWord extend schedule turn rounds added compress hashBlocks digestOf sha1

@@ -3,7 +3,7 @@ ghost use mathlib.Core.Path.{_≡_};
 ghost use Prim.Native.Nat.{_+_, _≤_};
 ghost use lib.ListN.{length};
 ghost use Rattle.format.specs.Format.{idSize};
-ghost use Rattle.sha1.specs.Sha1.{sha1};
+ghost use Rattle.kind.specs.Sha1.{sha1Kind};
 ghost use Rattle.extension.specs.EndOfIndexEntry.{whole-size, priorAt, verifiedAt, offsetIn};
 use crate::EOIE;
 use crate::iter::Body;
@@ -34,7 +34,7 @@ struct Prior {
 
 // What the extensions from a place on come to, as far as they are found.
 fn summed(file: &[u8], from: FileAt, end: FileAt) -> Prior
-    ensures { λ r. ⌜ r ≡ priorAt (now (file .entry)) (from .0) (end .0) ⌝ }
+    ensures { λ r. ⌜ r ≡ priorAt sha1Kind (now (file .entry)) (from .0) (end .0) ⌝ }
 {
     let mut here = Cursor { at: from, end };
     let mut digest = Digest::new();
@@ -71,7 +71,7 @@ fn summed(file: &[u8], from: FileAt, end: FileAt) -> Prior
 // The offset, if its extensions have the hash that EOIE, which begins at `start`, has of them, and the last of them ends where EOIE begins.
 fn verified(file: &[u8], offset: usize, start: usize) -> Told
     requires { ⌜ start + whole-size idSize ≤ length (now file) ⌝ }
-    ensures { λ r. ⌜ r ≡ verifiedAt idSize sha1 (now (file .entry)) start offset ⌝ }
+    ensures { λ r. ⌜ r ≡ verifiedAt sha1Kind (now (file .entry)) start offset ⌝ }
 {
     let p = summed(file, FileAt(offset), FileAt(start));
     let sum = p.sum;
@@ -94,7 +94,7 @@ fn verified(file: &[u8], offset: usize, start: usize) -> Told
 
 // The offset that the EOIE in front of a file's trailer tells.
 pub fn decode(file: &[u8]) -> Told
-    ensures { λ r. ⌜ r ≡ offsetIn idSize sha1 (now (file .entry)) ⌝ }
+    ensures { λ r. ⌜ r ≡ offsetIn sha1Kind (now (file .entry)) ⌝ }
 {
     if file.len() < MIN_SIZE_WITH_HEADER + format::ID_SIZE {
         return Told::Nothing;

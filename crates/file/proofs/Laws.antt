@@ -13,6 +13,7 @@ use Rattle.wire.specs.BigEndian.{beAt}
 use Rattle.wire.specs.declared.FileAt.{FileAt}
 use Rattle.wire.specs.declared.PathAt.{PathAt}
 use Rattle.format.specs.Format.{depthLimit, headerSize, idSize}
+use Rattle.kind.specs.Sha1.{sha1Kind}
 use Rattle.decode.specs.Header.{signature, onVersion, headerAt}
 use Rattle.decode.specs.declared.header.Header.{Header}
 use Rattle.decode.specs.declared.header.Header.the-variants.{Opens, ShortFile, NoSignature, OtherVersion}
@@ -84,17 +85,17 @@ module _ (s : List ℕ) (version count : ℕ) (rs ps ns rs₁ ps₁ : List ℕ) 
 
 -- ---- the file
 module _ (s rs ps ns : List ℕ) (h : Header) (eh : h ≡ headerAt idSize s) where
-  headed : readFile idSize depthLimit s rs ps ns ≡ onHeader idSize depthLimit s rs ps ns h
+  headed : readFile sha1Kind depthLimit s rs ps ns ≡ onHeader sha1Kind depthLimit s rs ps ns h
   unfolding readFile
   headed = rw eh
 
-  pub short-file : h ≡ ShortFile → outcome answer.ShortFile rs ps ns ≡ readFile idSize depthLimit s rs ps ns
+  pub short-file : h ≡ ShortFile → outcome answer.ShortFile rs ps ns ≡ readFile sha1Kind depthLimit s rs ps ns
   short-file q = sym (headed ∙ rw q)
 
-  pub no-signature : h ≡ NoSignature → outcome answer.NoSignature rs ps ns ≡ readFile idSize depthLimit s rs ps ns
+  pub no-signature : h ≡ NoSignature → outcome answer.NoSignature rs ps ns ≡ readFile sha1Kind depthLimit s rs ps ns
   no-signature q = sym (headed ∙ rw q)
 
-  pub other-version : (v : ℕ) → h ≡ OtherVersion v → outcome (answer.OtherVersion v) rs ps ns ≡ readFile idSize depthLimit s rs ps ns
+  pub other-version : (v : ℕ) → h ≡ OtherVersion v → outcome (answer.OtherVersion v) rs ps ns ≡ readFile sha1Kind depthLimit s rs ps ns
   other-version v q = sym (headed ∙ rw q)
 
   module _ (version count : ℕ) (q : h ≡ Opens version count) where
@@ -107,11 +108,11 @@ module _ (s rs ps ns : List ℕ) (h : Header) (eh : h ≡ headerAt idSize s) whe
         by true x y = let z : _≡_ {A = ℕ} 0 1 = cc in absurd (omega arith)
         by false x y = omega (arith, ltb-false (length s) (headerSize + idSize) x)
 
-    module _ (good : Bool) (eg : good ≡ goodTrailer idSize s) where
-      pub bad-trailer : good ≡ false → outcome answer.BadTrailer rs ps ns ≡ readFile idSize depthLimit s rs ps ns
+    module _ (good : Bool) (eg : good ≡ goodTrailer sha1Kind s) where
+      pub bad-trailer : good ≡ false → outcome answer.BadTrailer rs ps ns ≡ readFile sha1Kind depthLimit s rs ps ns
       bad-trailer x = sym (headed ∙ rw (q, ← eg, x))
 
-      pub opened : good ≡ true → (o : Outcome) → o ≡ entriesInto idSize depthLimit s version count rs ps ns → o ≡ readFile idSize depthLimit s rs ps ns
+      pub opened : good ≡ true → (o : Outcome) → o ≡ entriesInto idSize depthLimit s version count rs ps ns → o ≡ readFile sha1Kind depthLimit s rs ps ns
       opened x o g = g ∙ sym (headed ∙ rw (q, ← eg, x))
 
 pub ruleset laws = (marked-yes, marked-no, tree-is, tree-malformed)

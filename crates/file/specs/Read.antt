@@ -1,5 +1,5 @@
 -- The whole file, read into three stores (01, "When the desk says no": 1 to 4 in that order, then entries, then extensions, then for the last TREE only 9, 10 and
--- malformation), over the length of an id and the depth limit. Assumes nothing.
+-- malformation), over the kind and the depth limit; what comes behind the trailer's test, over the length of an id. Assumes nothing.
 use Prim.Native.Nat.{ℕ, _-_}
 use mathlib.Core.Bool.{Bool, true, false}
 use mathlib.Core.List.{List}
@@ -7,6 +7,7 @@ use lib.ListN.{length}
 use Rattle.laws.specs.Pick.{pick}
 use Rattle.wire.specs.Places.{fileAt, pathAt}
 use Rattle.format.specs.Format.{headerSize}
+use Rattle.kind.specs.Kind.{Kind}
 use Rattle.decode.specs.Header.{headerAt}
 use Rattle.decode.specs.declared.header.Header.{Header}
 use Rattle.decode.specs.declared.header.Header.the-variants.{Opens, ShortFile, NoSignature, OtherVersion}
@@ -91,12 +92,12 @@ unfoldable pub entriesInto : ℕ → ℕ → List ℕ → ℕ → ℕ → List �
 entriesInto id limit s version count rs ps ns =
     afterEntries id limit s version count ns (entries.readEntries id s (fileAt (length s - id)) version count 0 (fileAt headerSize) nothingBefore rs ps)
 
-abbrev pub onHeader : ℕ → ℕ → List ℕ → List ℕ → List ℕ → List ℕ → Header → Outcome
-onHeader id limit s rs ps ns (Opens version count) = pick (goodTrailer id s) (entriesInto id limit s version count rs ps ns) (outcome answer.BadTrailer rs ps ns)
-onHeader id limit s rs ps ns ShortFile = outcome answer.ShortFile rs ps ns
-onHeader id limit s rs ps ns NoSignature = outcome answer.NoSignature rs ps ns
-onHeader id limit s rs ps ns (OtherVersion version) = outcome (answer.OtherVersion version) rs ps ns
+abbrev pub onHeader : Kind → ℕ → List ℕ → List ℕ → List ℕ → List ℕ → Header → Outcome
+onHeader kind limit s rs ps ns (Opens version count) = pick (goodTrailer kind s) (entriesInto (kind .id) limit s version count rs ps ns) (outcome answer.BadTrailer rs ps ns)
+onHeader kind limit s rs ps ns ShortFile = outcome answer.ShortFile rs ps ns
+onHeader kind limit s rs ps ns NoSignature = outcome answer.NoSignature rs ps ns
+onHeader kind limit s rs ps ns (OtherVersion version) = outcome (answer.OtherVersion version) rs ps ns
 
 -- THE DEFINITION
-unfoldable pub readFile : ℕ → ℕ → List ℕ → List ℕ → List ℕ → List ℕ → Outcome
-readFile id limit s rs ps ns = onHeader id limit s rs ps ns (headerAt id s)
+unfoldable pub readFile : Kind → ℕ → List ℕ → List ℕ → List ℕ → List ℕ → Outcome
+readFile kind limit s rs ps ns = onHeader kind limit s rs ps ns (headerAt (kind .id) s)

@@ -4,6 +4,7 @@ ghost use Prim.Native.Nat.{_≤_};
 ghost use lib.ListN.{length};
 ghost use Rattle.wire.specs.declared.FileAt.{FileAt};
 ghost use Rattle.format.specs.Format.{depthLimit, idSize};
+ghost use Rattle.kind.specs.Sha1.{sha1Kind};
 ghost use Rattle.file.specs.Trailer.{goodTrailer};
 ghost use Rattle.file.specs.Answer.{numberOf, carriesOf, valueOf};
 ghost use Rattle.file.specs.Read.{outcome, marked, withTree, extensionsInto, entriesInto, readFile};
@@ -119,7 +120,7 @@ pub fn carried(a: Answer) -> u64
 // Whether the trailer is zeros or the SHA-1 of all before it. Zeros are seen first, so that such a file is not hashed.
 fn good_trailer(file: &[u8]) -> bool
     requires { ⌜ idSize ≤ length (now file) ⌝ }
-    ensures { λ r. ⌜ r ≡ goodTrailer idSize (now (file .entry)) ⌝ }
+    ensures { λ r. ⌜ r ≡ goodTrailer sha1Kind (now (file .entry)) ⌝ }
 {
     let n = file.len() - format::ID_SIZE;
     let zeros = [0u8; format::ID_SIZE];
@@ -254,7 +255,7 @@ fn read_entries(
 // Reads an index file into three lent stores: records, their paths one behind the other, and the nodes of the last TREE. Refusals 1 to 4 touch nothing; 5 and 6 leave
 // the entries before the one they name; 7 and 8 leave all entries; 9 and 10 leave all entries and a node store of zeros.
 pub fn read(file: &[u8], records: &mut [u8], paths: &mut [u8], nodes: &mut [u8]) -> Answer
-    ensures { λ r. ⌜ outcome r (now (records .exit)) (now (paths .exit)) (now (nodes .exit)) ≡ readFile idSize depthLimit (now (file .entry)) (now (records .entry)) (now (paths .entry)) (now (nodes .entry)) ⌝ }
+    ensures { λ r. ⌜ outcome r (now (records .exit)) (now (paths .exit)) (now (nodes .exit)) ≡ readFile sha1Kind depthLimit (now (file .entry)) (now (records .entry)) (now (paths .entry)) (now (nodes .entry)) ⌝ }
 {
     let h = decode::header::decode(file);
     match h {

@@ -6,6 +6,10 @@ use Prim.Native.Nat.{ℕ, _+_}
 abbrev pub idSize : ℕ
 idSize = 20
 
+-- the bytes that a record and a node have for an id
+abbrev pub idRoom : ℕ
+idRoom = 32
+
 -- signature, version and count
 abbrev pub headerSize : ℕ
 headerSize = 12

@@ -10,6 +10,7 @@ use borrow.Author.Tests.{lt-ltb, le-ltb, eq-eqb, ne-eqb}
 use Rattle.format.specs.Format.{depthLimit, idSize}
 use Rattle.lines.specs.Lines.{linesFrom, refusedText}
 use Rattle.sums.specs.Cap.{cap-fits}
+use Rattle.kind.specs.Sha1.{sha1Kind}
 use Rattle.lines.specs.Written.{Outcome, outcome, written, copied, text-short, text-written}
 use Rattle.file.specs.Answer.{numberOf, carriesOf, valueOf}
 use Rattle.file.specs.Read as read
@@ -30,12 +31,12 @@ pub records-read : (a : Answer) (version : ℕ) (sparse tree : Bool) (n paths no
 records-read a version sparse tree n paths nodes e = sym (ap recordsOf e)
 
 module _ (s out : List ℕ) (o : Outcome) where
-  pub listed-big : 65536 < length s → o ≡ written tooBig out → o ≡ written (listed idSize depthLimit s) out
+  pub listed-big : 65536 < length s → o ≡ written tooBig out → o ≡ written (listed sha1Kind depthLimit s) out
   unfolding listed
   listed-big h e = e ∙ sym (rw (lt-ltb 65536 (length s) h))
 
-  pub listed-read : length s ≤ 65536 → (a : Answer) (rs ps ns : List ℕ) → read.outcome a rs ps ns ≡ read.readFile idSize depthLimit s (replicate 49152 0) (replicate 65536 0) (replicate 18432 0)
-      → o ≡ written (textOf idSize a rs ps) out → o ≡ written (listed idSize depthLimit s) out
+  pub listed-read : length s ≤ 65536 → (a : Answer) (rs ps ns : List ℕ) → read.outcome a rs ps ns ≡ read.readFile sha1Kind depthLimit s (replicate 49152 0) (replicate 65536 0) (replicate 18432 0)
+      → o ≡ written (textOf idSize a rs ps) out → o ≡ written (listed sha1Kind depthLimit s) out
   unfolding listed
   listed-read h a rs ps ns er e = e ∙ ap (λ (q : read.Outcome). written (textOfOutcome idSize q) out) er ∙ sym (rw (le-ltb 65536 (length s) h))
 

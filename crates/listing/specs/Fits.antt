@@ -53,6 +53,7 @@ use Rattle.lines.specs.Written as lines
 use Rattle.sums.specs.Cap.{cap, cap-fits}
 use Rattle.lines.proofs.Laws.{line-length, digits-fit, refused-carried, refused-alone}
 use Rattle.wire.specs.Written.{digitsOf}
+use Rattle.kind.specs.Sha1.{sha1Kind}
 use Rattle.listing.specs.Listed.{textOf, textOfOutcome, tooBig, listed}
 
 -- a line but for its path: six digits, a space, two digits for each byte of an id, a space, the stage, a tab and the newline
@@ -234,7 +235,7 @@ module _ (s : List ℕ) (bytes : (i : ℕ) → getD s i 0 < 256) (m : ℕ) (line
     opens-fits version count few long true = entries-fit version count few long
     opens-fits version count few long false = refusal-fits rs ps answer.BadTrailer (λ z. omega arith) (lit≤ tt) (lit≤ tt)
 
-    file-fits : FitsAll (readFile idSize depthLimit s rs ps ns)
+    file-fits : FitsAll (readFile sha1Kind depthLimit s rs ps ns)
     unfolding readFile headerAt onVersion
     file-fits =
         by-less P (length s) (headerSize + idSize) (λ h. refusal-fits rs ps answer.ShortFile (λ z. omega arith) (lit≤ tt) (lit≤ tt))
@@ -247,15 +248,15 @@ module _ (s : List ℕ) (bytes : (i : ℕ) → getD s i 0 < 256) (m : ℕ) (line
         version = beAt 4 s 4
 
         P : Header → Type 0
-        P h = FitsAll (onHeader idSize depthLimit s rs ps ns h)
+        P h = FitsAll (onHeader sha1Kind depthLimit s rs ps ns h)
 
         opens : headerSize + idSize ≤ length s → P (Opens version (beAt 4 s 8))
-        opens long = opens-fits version (beAt 4 s 8) (word-small 8) long (goodTrailer idSize s)
+        opens long = opens-fits version (beAt 4 s 8) (word-small 8) long (goodTrailer sha1Kind s)
 
 -- ---- THE CLAIM
 
 module _ (s : List ℕ) (bytes : (i : ℕ) → getD s i 0 < 256) where
-  pub every-listing-fits : length (listed idSize depthLimit s) ≤ listingRoom
+  pub every-listing-fits : length (listed sha1Kind depthLimit s) ≤ listingRoom
   unfolding listed
   every-listing-fits =
       by-less (λ (t : List ℕ). length t ≤ listingRoom) 65536 (length s) (λ h. lit≤ tt)
@@ -267,19 +268,19 @@ module _ (s : List ℕ) (bytes : (i : ℕ) → getD s i 0 < 256) where
       file-fits s bytes listingRoom (lit≤ tt) rs ps (replicate (256 * nodeSize) 0) (omega arith) (omega arith) (omega arith))
 
   -- so whoever meets the contract of `list_file` answers a size that is within that room
-  pub listing-within : (r : ℕ) (out out′ : List ℕ) → lines.outcome r out′ ≡ lines.written (listed idSize depthLimit s) out → r ≤ listingRoom
+  pub listing-within : (r : ℕ) (out out′ : List ℕ) → lines.outcome r out′ ≡ lines.written (listed sha1Kind depthLimit s) out → r ≤ listingRoom
   unfolding lines.written
   listing-within r out out′ e =
-      let n : length (listed idSize depthLimit s) ≤ listingRoom = every-listing-fits in
-      let q : r ≡ cap (length (listed idSize depthLimit s)) = ap (λ (o : lines.Outcome). o .size) e in
-      omega (arith, cap-fits (length (listed idSize depthLimit s)) (omega arith))
+      let n : length (listed sha1Kind depthLimit s) ≤ listingRoom = every-listing-fits in
+      let q : r ≡ cap (length (listed sha1Kind depthLimit s)) = ap (λ (o : lines.Outcome). o .size) e in
+      omega (arith, cap-fits (length (listed sha1Kind depthLimit s)) (omega arith))
 
   -- and, where it is lent, puts the whole text
-  pub listing-whole : (r : ℕ) (out out′ : List ℕ) → lines.outcome r out′ ≡ lines.written (listed idSize depthLimit s) out → listingRoom ≤ length out
-      → (r ≡ length (listed idSize depthLimit s)) × (out′ ≡ put out 0 (listed idSize depthLimit s))
+  pub listing-whole : (r : ℕ) (out out′ : List ℕ) → lines.outcome r out′ ≡ lines.written (listed sha1Kind depthLimit s) out → listingRoom ≤ length out
+      → (r ≡ length (listed sha1Kind depthLimit s)) × (out′ ≡ put out 0 (listed sha1Kind depthLimit s))
   unfolding lines.written
   listing-whole r out out′ e h =
-      let text : List ℕ = listed idSize depthLimit s in
+      let text : List ℕ = listed sha1Kind depthLimit s in
       let n : length text ≤ listingRoom = every-listing-fits in (
         ap (λ (o : lines.Outcome). o .size) e ∙ cap-fits (length text) (omega arith),
         ap (λ (o : lines.Outcome). o .out) e ∙ ap (λ (t : Bool). pick t out (put out 0 text)) (le-ltb (length out) (length text) (omega arith)),

@@ -5,6 +5,7 @@ use mathlib.Core.List.{List, [], _∷_}
 use lib.Dec.{ltb, eqb}
 use lib.ListN.{length, replicate}
 use Rattle.laws.specs.Pick.{pick}
+use Rattle.kind.specs.Kind.{Kind}
 use Rattle.file.specs.Answer.{numberOf, carriesOf, valueOf}
 use Rattle.file.specs.Read.{Outcome, readFile}
 use Rattle.file.specs.declared.Answer.{Answer}
@@ -36,6 +37,6 @@ tooBig = 116 ∷ 111 ∷ 111 ∷ space ∷ 98 ∷ 105 ∷ 103 ∷ newline ∷ []
 abbrev pub textOfOutcome : ℕ → Outcome → List ℕ
 textOfOutcome id o = textOf id (o .answer) (o .records) (o .paths)
 
--- what the listing program prints of a file, over the length of an id and the depth limit of trees
-unfoldable pub listed : ℕ → ℕ → List ℕ → List ℕ
-listed id limit s = pick (ltb 65536 (length s)) tooBig (textOfOutcome id (readFile id limit s (replicate (512 * 96) 0) (replicate 65536 0) (replicate (256 * 72) 0)))
+-- what the listing program prints of a file, over the kind and the depth limit of trees
+unfoldable pub listed : Kind → ℕ → List ℕ → List ℕ
+listed kind limit s = pick (ltb 65536 (length s)) tooBig (textOfOutcome (kind .id) (readFile kind limit s (replicate (512 * 96) 0) (replicate 65536 0) (replicate (256 * 72) 0)))

@@ -4,6 +4,7 @@ ghost use Rattle.lines.specs.Written.{outcome, written};
 ghost use Rattle.listing.specs.Listed.{recordsOf, textOf, tooBig, listed};
 use file::Answer;
 ghost use Rattle.format.specs.Format.{depthLimit, idSize};
+ghost use Rattle.kind.specs.Sha1.{sha1Kind};
 
 // The largest file that the listing program reads, and the room that it lends: 512 records, 65,536 path bytes and 256 nodes.
 const MOST_BYTES: usize = 65536;
@@ -71,7 +72,7 @@ fn write_too_big(out: &mut [u8]) -> usize
 
 // Writes what the listing program prints of a file, and answers how long that is; where it does not fit, out stays as it was.
 pub fn list_file(file: &[u8], out: &mut [u8]) -> usize
-    ensures { λ r. ⌜ outcome r (now (out .exit)) ≡ written (listed idSize depthLimit (now (file .entry))) (now (out .entry)) ⌝ }
+    ensures { λ r. ⌜ outcome r (now (out .exit)) ≡ written (listed sha1Kind depthLimit (now (file .entry))) (now (out .entry)) ⌝ }
 {
     if MOST_BYTES < file.len() {
         return write_too_big(out);

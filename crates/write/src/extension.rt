@@ -5,6 +5,7 @@ ghost use lib.ListN.{length, take};
 ghost use Rattle.laws.specs.Put.{put};
 ghost use Rattle.format.specs.Format.{idSize};
 ghost use Rattle.sha1.specs.Sha1.{sha1};
+ghost use Rattle.kind.specs.Sha1.{sha1Kind};
 ghost use Rattle.write.specs.File.{extensionHead, treeHead, sparsePart, headsIn, eoiePart, trailerOf, Puts};
 
 // What the heads of the extensions before EOIE say: whether TREE is written, how many bytes its body has, and whether `sdir` is written.
@@ -62,8 +63,8 @@ fn contents_hash(h: Heads) -> [u8; 20]
 
 // Writes EOIE, if it is written: where the extensions start, and the hash of their signatures and sizes.
 pub fn put_eoie(has: bool, offset: u32, h: Heads, out: &mut [u8], at: usize) -> usize
-    requires { ⌜ at + length (eoiePart idSize sha1 has offset (headsIn h)) ≤ length (now out) ⌝ }
-    ensures { λ r. ⌜ Puts r (now (out .exit)) (now (out .entry)) at (eoiePart idSize sha1 has offset (headsIn h)) ⌝ }
+    requires { ⌜ at + length (eoiePart sha1Kind has offset (headsIn h)) ≤ length (now out) ⌝ }
+    ensures { λ r. ⌜ Puts r (now (out .exit)) (now (out .entry)) at (eoiePart sha1Kind has offset (headsIn h)) ⌝ }
 {
     if has {
         let hash = contents_hash(h);
@@ -79,7 +80,7 @@ pub fn put_eoie(has: bool, offset: u32, h: Heads, out: &mut [u8], at: usize) -> 
 // Writes the trailer behind the bytes before `at`: their hash, or zeros.
 pub fn put_trailer(skips: bool, out: &mut [u8], at: usize)
     requires { ⌜ at + idSize ≤ length (now out) ⌝ }
-    ensures { λ _. ⌜ now (out .exit) ≡ put (now (out .entry)) at (trailerOf idSize sha1 skips (take at (now (out .entry)))) ⌝ }
+    ensures { λ _. ⌜ now (out .exit) ≡ put (now (out .entry)) at (trailerOf sha1Kind skips (take at (now (out .entry)))) ⌝ }
 {
     if skips {
         slices::clear(out, at, format::ID_SIZE);

@@ -5,7 +5,7 @@ ghost use lib.ListN.{length, take};
 ghost use Rattle.laws.specs.Put.{put};
 ghost use Rattle.sums.specs.Cap.{cap};
 ghost use Rattle.format.specs.Format.{depthLimit, idSize};
-ghost use Rattle.sha1.specs.Sha1.{sha1};
+ghost use Rattle.kind.specs.Sha1.{sha1Kind};
 ghost use Rattle.write.specs.File.{headerOf, frontOf, extensionsIn, planBody, planFile, eoieFor, offsetOf, endOf, headSize, endSize, most, treeOf, treeFits, writesTree, hasEoie, Puts, Counted, outcome, writeTable, writeAll};
 use extension::Heads;
 use write_entries::Sized;
@@ -148,8 +148,8 @@ fn fill_extensions(nodes: &[u8], names: &[u8], h: Heads, out: &mut [u8], at: usi
 
 // Writes EOIE and the trailer behind the bytes before `at`.
 fn fill_end(p: Plan, offset: u32, out: &mut [u8], at: usize)
-    requires { ⌜ at + (length (eoieFor idSize sha1 p offset) + idSize) ≤ length (now out) ⌝ }
-    ensures { λ _. ⌜ now (out .exit) ≡ put (now (out .entry)) at (endOf idSize sha1 (p .unhashed) (take at (now (out .entry))) (eoieFor idSize sha1 p offset)) ⌝ }
+    requires { ⌜ at + (length (eoieFor sha1Kind p offset) + idSize) ≤ length (now out) ⌝ }
+    ensures { λ _. ⌜ now (out .exit) ≡ put (now (out .entry)) at (endOf sha1Kind (p .unhashed) (take at (now (out .entry))) (eoieFor sha1Kind p offset)) ⌝ }
 {
     let end = extension::put_eoie(p.eoie, offset, p.heads, out, at);
     extension::put_trailer(p.unhashed, out, end);
@@ -160,7 +160,7 @@ fn fill(records: &[u8], paths: &[u8], nodes: &[u8], names: &[u8], p: Plan, out: 
     requires { ⌜ p .heads .size ≡ length (treeOf idSize depthLimit (now nodes) (now names) (p .heads .tree)) ⌝ }
     requires { ⌜ offsetOf idSize (now records) (now paths) ≤ most ⌝ }
     requires { ⌜ length (planBody idSize depthLimit (now records) (now paths) (now nodes) (now names) p) + endSize idSize (p .eoie) ≤ length (now out) ⌝ }
-    ensures { λ _. ⌜ now (out .exit) ≡ put (now (out .entry)) 0 (planFile idSize sha1 depthLimit (now (records .entry)) (now (paths .entry)) (now (nodes .entry)) (now (names .entry)) p) ⌝ }
+    ensures { λ _. ⌜ now (out .exit) ≡ put (now (out .entry)) 0 (planFile sha1Kind depthLimit (now (records .entry)) (now (paths .entry)) (now (nodes .entry)) (now (names .entry)) p) ⌝ }
 {
     let offset = fill_front(records, paths, p.version, p.count, out);
     let end = fill_extensions(nodes, names, p.heads, out, offset);
@@ -208,8 +208,8 @@ fn write_sized(
     t: Totals,
     out: &mut [u8],
 ) -> Answer
-    requires { ⌜ Counted (now records) (now paths) (t .version) (t .count) (t .size) ⌝ }
-    ensures { λ r. ⌜ outcome r (now (out .exit)) ≡ writeTable idSize sha1 depthLimit (now (records .entry)) (now (paths .entry)) (now (nodes .entry)) (now (names .entry)) o (now (out .entry)) ⌝ }
+    requires { ⌜ Counted idSize (now records) (now paths) (t .version) (t .count) (t .size) ⌝ }
+    ensures { λ r. ⌜ outcome r (now (out .exit)) ≡ writeTable sha1Kind depthLimit (now (records .entry)) (now (paths .entry)) (now (nodes .entry)) (now (names .entry)) o (now (out .entry)) ⌝ }
 {
     let n = entry::records_in(records);
     let writes = writes_tree(o);
@@ -255,7 +255,7 @@ pub fn write_to(
     o: Options,
     out: &mut [u8],
 ) -> Answer
-    ensures { λ r. ⌜ outcome r (now (out .exit)) ≡ writeAll idSize sha1 depthLimit (now (records .entry)) (now (paths .entry)) (now (nodes .entry)) (now (names .entry)) o (now (out .entry)) ⌝ }
+    ensures { λ r. ⌜ outcome r (now (out .exit)) ≡ writeAll sha1Kind depthLimit (now (records .entry)) (now (paths .entry)) (now (nodes .entry)) (now (names .entry)) o (now (out .entry)) ⌝ }
 {
     let s = write_entries::size_entries(records, paths);
     match s {
