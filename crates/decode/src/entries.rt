@@ -209,7 +209,8 @@ pub fn read_entries(
     records: &mut [u8],
     paths: &mut [u8],
 ) -> Answer
-    ensures { λ r. ⌜ outcome r (now (records .exit)) (now (paths .exit)) ≡ readEntries idSize (now (file .entry)) end version count index from before (now (records .entry)) (now (paths .entry)) ⌝ }
+    ensures { λ r. ⌜ outcome r (now (records .exit)) (now (paths .exit))
+        ≡ readEntries idSize (now (file .entry)) end version count index from before (now (records .entry)) (now (paths .entry)) ⌝ }
 {
     let place = before.used;
     let first = before.first;

@@ -217,7 +217,8 @@ fn read_entries(
     nodes: &mut [u8],
 ) -> Answer
     requires { ⌜ idSize ≤ length (now file) ⌝ }
-    ensures { λ r. ⌜ outcome r (now (records .exit)) (now (paths .exit)) (now (nodes .exit)) ≡ entriesInto idSize depthLimit (now (file .entry)) version count (now (records .entry)) (now (paths .entry)) (now (nodes .entry)) ⌝ }
+    ensures { λ r. ⌜ outcome r (now (records .exit)) (now (paths .exit)) (now (nodes .exit))
+        ≡ entriesInto idSize depthLimit (now (file .entry)) version count (now (records .entry)) (now (paths .entry)) (now (nodes .entry)) ⌝ }
 {
     let end = FileAt(file.len() - format::ID_SIZE);
     let from = FileAt(format::HEADER_SIZE);
@@ -255,7 +256,8 @@ fn read_entries(
 // Reads an index file into three lent stores: records, their paths one behind the other, and the nodes of the last TREE. Refusals 1 to 4 touch nothing; 5 and 6 leave
 // the entries before the one they name; 7 and 8 leave all entries; 9 and 10 leave all entries and a node store of zeros.
 pub fn read(file: &[u8], records: &mut [u8], paths: &mut [u8], nodes: &mut [u8]) -> Answer
-    ensures { λ r. ⌜ outcome r (now (records .exit)) (now (paths .exit)) (now (nodes .exit)) ≡ readFile sha1Kind depthLimit (now (file .entry)) (now (records .entry)) (now (paths .entry)) (now (nodes .entry)) ⌝ }
+    ensures { λ r. ⌜ outcome r (now (records .exit)) (now (paths .exit)) (now (nodes .exit))
+        ≡ readFile sha1Kind depthLimit (now (file .entry)) (now (records .entry)) (now (paths .entry)) (now (nodes .entry)) ⌝ }
 {
     let h = decode::header::decode(file);
     match h {

@@ -69,7 +69,8 @@ fn put_head(mode: u32, id: [u8; format::ID_SIZE], stage: u32, out: &mut [u8], at
 // Writes the line of record i at `at`, and answers the place behind it.
 fn put_line(records: &[u8], paths: &[u8], i: usize, out: &mut [u8], at: usize) -> usize
     requires { ⌜ at + length (lineAt idSize (now records) (now paths) i) ≤ length (now out) ⌝ }
-    ensures { λ r. ⌜ (r ≡ at + length (lineAt idSize (now (records .entry)) (now (paths .entry)) i)) × (now (out .exit) ≡ put (now (out .entry)) at (lineAt idSize (now (records .entry)) (now (paths .entry)) i)) ⌝ }
+    ensures { λ r. ⌜ (r ≡ at + length (lineAt idSize (now (records .entry)) (now (paths .entry)) i))
+        × (now (out .exit) ≡ put (now (out .entry)) at (lineAt idSize (now (records .entry)) (now (paths .entry)) i)) ⌝ }
 {
     let mode = entry::mode_at(records, i);
     let id = entry::id_at(records, i);

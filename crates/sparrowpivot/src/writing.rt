@@ -34,7 +34,9 @@ pub extern "C" fn sparrowpivot_write(
     out: &mut [u8],
     values: &mut [u64; 8],
 ) -> u32
-    ensures { λ r. ⌜ told r (now (values .exit)) (now (out .exit) ∷ []) ≡ tellWrite (writeAll sha1Kind depthLimit (now (records .entry)) (now (paths .entry)) (now (nodes .entry)) (now (names .entry)) (optionsFrom options) (now (out .entry))) ⌝ }
+    ensures { λ r. ⌜ told r (now (values .exit)) (now (out .exit) ∷ [])
+        ≡ tellWrite
+        (writeAll sha1Kind depthLimit (now (records .entry)) (now (paths .entry)) (now (nodes .entry)) (now (names .entry)) (optionsFrom options) (now (out .entry))) ⌝ }
 {
     let o = options_from(options);
     let a = write::write_to(records, paths, nodes, names, o, out);

@@ -160,7 +160,8 @@ fn fill(records: &[u8], paths: &[u8], nodes: &[u8], names: &[u8], p: Plan, out: 
     requires { ⌜ p .heads .size ≡ length (treeOf idSize depthLimit (now nodes) (now names) (p .heads .tree)) ⌝ }
     requires { ⌜ offsetOf idSize (now records) (now paths) ≤ most ⌝ }
     requires { ⌜ length (planBody idSize depthLimit (now records) (now paths) (now nodes) (now names) p) + endSize idSize (p .eoie) ≤ length (now out) ⌝ }
-    ensures { λ _. ⌜ now (out .exit) ≡ put (now (out .entry)) 0 (planFile sha1Kind depthLimit (now (records .entry)) (now (paths .entry)) (now (nodes .entry)) (now (names .entry)) p) ⌝ }
+    ensures { λ _. ⌜ now (out .exit)
+        ≡ put (now (out .entry)) 0 (planFile sha1Kind depthLimit (now (records .entry)) (now (paths .entry)) (now (nodes .entry)) (now (names .entry)) p) ⌝ }
 {
     let offset = fill_front(records, paths, p.version, p.count, out);
     let end = fill_extensions(nodes, names, p.heads, out, offset);
@@ -209,7 +210,8 @@ fn write_sized(
     out: &mut [u8],
 ) -> Answer
     requires { ⌜ Counted idSize (now records) (now paths) (t .version) (t .count) (t .size) ⌝ }
-    ensures { λ r. ⌜ outcome r (now (out .exit)) ≡ writeTable sha1Kind depthLimit (now (records .entry)) (now (paths .entry)) (now (nodes .entry)) (now (names .entry)) o (now (out .entry)) ⌝ }
+    ensures { λ r. ⌜ outcome r (now (out .exit))
+        ≡ writeTable sha1Kind depthLimit (now (records .entry)) (now (paths .entry)) (now (nodes .entry)) (now (names .entry)) o (now (out .entry)) ⌝ }
 {
     let n = entry::records_in(records);
     let writes = writes_tree(o);
@@ -255,7 +257,8 @@ pub fn write_to(
     o: Options,
     out: &mut [u8],
 ) -> Answer
-    ensures { λ r. ⌜ outcome r (now (out .exit)) ≡ writeAll sha1Kind depthLimit (now (records .entry)) (now (paths .entry)) (now (nodes .entry)) (now (names .entry)) o (now (out .entry)) ⌝ }
+    ensures { λ r. ⌜ outcome r (now (out .exit))
+        ≡ writeAll sha1Kind depthLimit (now (records .entry)) (now (paths .entry)) (now (nodes .entry)) (now (names .entry)) o (now (out .entry)) ⌝ }
 {
     let s = write_entries::size_entries(records, paths);
     match s {
