@@ -12,7 +12,7 @@ use lib.Seq.{take-all, getD-take, length-take-le, take-append-le, drop-append-le
 use borrow.Author.Tests.{lt-ltb}
 use Rattle.laws.specs.Tests.{lt-or-ge}
 use Rattle.wire.specs.BigEndian.{beAt, be-same}
-use Rattle.format.specs.Format.{idSize, idRoom}
+use Rattle.format.specs.Format.{idRoom}
 use Rattle.entry.specs.Layout.{recordSize, modePlace, idPlace, flagsPlace, startPlace, endPlace}
 use Rattle.entry.specs.Flags.{stageRaw}
 use Rattle.entry.specs.Record.{recordsIn, fieldAt, flagsAt, idAt, liesInside, pathAt}
@@ -77,14 +77,14 @@ module _ (n : ℕ) (rs : List ℕ) (i : ℕ) (h : i < n) where
       rw (f 0 (lit≤ tt), f 4 (lit≤ tt), f 8 (lit≤ tt), f 12 (lit≤ tt), f 16 (lit≤ tt), f 20 (lit≤ tt), f 28 (lit≤ tt), f 32 (lit≤ tt), f 36 (lit≤ tt))
 
   -- so what a record shows it shows among the first
-  pub shown-first : {ps : List ℕ} {m : Meaning} → Shows idSize rs ps i m → Shows idSize firstRecords ps i m
-  shown-first {ps} x =
+  pub shown-first : {id : ℕ} → id ≤ idRoom → {ps : List ℕ} {m : Meaning} → Shows id rs ps i m → Shows id firstRecords ps i m
+  shown-first {id} fits {ps} x =
       let f : flagsAt firstRecords i ≡ flagsAt rs i = field-first 4 flagsPlace (lit≤ tt) in
       record {
         there = ⊎-elim (λ e. ap-there e) (λ (m, e). omega (arith, e)) (all-or-cut (n * recordSize) rs);
         stat = stat-first ∙ x .stat;
         mode = field-first 4 modePlace (lit≤ tt) ∙ x .mode;
-        id = id-first idSize (lit≤ tt) ∙ x .id;
+        id = id-first id (omega arith) ∙ x .id;
         flags = f ∙ x .flags;
         stage = ap stageRaw f ∙ x .stage;
         start = x .start;
@@ -102,8 +102,8 @@ entry-there [] i m e = let z : _≡_ {A = ℕ} 0 1 = cc in absurd (omega arith)
 entry-there (o ∷ ms) zero m e = omega arith
 entry-there (o ∷ ms) (suc i) m e = omega (arith, entry-there ms i m e)
 
-pub each-shown-first : (n : ℕ) (rs ps : List ℕ) (ms : List Meaning) → length ms ≤ n → EachShown rs ps ms → EachShown (take (n * recordSize) rs) ps ms
-each-shown-first n rs ps ms h shown i m e = shown-first n rs i (omega (arith, entry-there ms i m e)) (shown i m e)
+pub each-shown-first : {id : ℕ} → id ≤ idRoom → (n : ℕ) (rs ps : List ℕ) (ms : List Meaning) → length ms ≤ n → EachShown id rs ps ms → EachShown id (take (n * recordSize) rs) ps ms
+each-shown-first fits n rs ps ms h shown i m e = shown-first n rs i (omega (arith, entry-there ms i m e)) fits (shown i m e)
 
 -- ---- the first n nodes
 

@@ -12,6 +12,7 @@ use Rattle.wire.specs.Groups.{groupsIn, numberAt}
 use Rattle.wire.specs.declared.Number.{Number}
 use Rattle.wire.specs.declared.Number.the-variants.{Is, Cut, Over}
 use Rattle.format.specs.Format.{depthLimit, idSize}
+use Rattle.kind.specs.Sha1.{sha1Kind}
 use Rattle.entry.specs.Flags.{extendedToMemory}
 use Rattle.entry.specs.Mode.{keepMode}
 use Rattle.entry.specs.Record.{recordOf, frontOf, restOf, fieldAt, liesInside, pathAt}
@@ -126,7 +127,7 @@ flagsOf Short = refuses
 flagsOf Fault = refuses
 
 pub answer : Asked → Said
-answer (file s) = numbered (readFile idSize depthLimit s lentRecords lentPaths lentNodes)
+answer (file s) = numbered (readFile sha1Kind depthLimit s lentRecords lentPaths lentNodes)
 answer (plain n field) = lengths 62 n (whole (plainBytes n field) 3 0)
 answer (wider n field) = lengths 64 n (whole (widerBytes n field) 3 0)
 answer (groups s) = value (numberAt s 0 (length s))
