@@ -13,7 +13,6 @@ use Rattle.kind.specs.Kind.{Kind}
 use Rattle.decode.specs.Header.{headerAt}
 use Rattle.decode.specs.Entries as ran
 use Rattle.decode.specs.declared.header.Header.{Header as Opening}
-use Rattle.extension.specs.Signatures as reader
 use Rattle.extension.specs.Decode.{walkAt}
 use Rattle.extension.specs.declared.iter.Body.{Body}
 use Rattle.extension.specs.declared.decode.Walked.{Walked}
@@ -93,7 +92,7 @@ module _ (kind : Kind) where
       inside : end ≤ length s
       inside = omega arith
 
-      all-read : {w : Walked} → walkAt s next end reader.TREE ≡ w
+      all-read : {w : Walked} → walkAt s next end ≡ w
           → reading ≡ withNodes (entry.filled rs (recordsBytes (kind .id) 0 ms)) (entry.filled ps (pathsBytes ms)) (onWalked (kind .id) depthLimit s (sofar ms) ns w)
       unfolding extensionsInto
       all-read e =
@@ -102,20 +101,20 @@ module _ (kind : Kind) where
 
       -- ---- the extensions
 
-      walk-is : {w : Walked} → ext.SaysExtensions next c w → walkAt s next end reader.TREE ≡ w
+      walk-is : {w : Walked} → ext.SaysExtensions next c w → walkAt s next end ≡ w
       walk-is {w} x = extensions.no-second-answer s (slices .bytes) next end ahead inside (subst (λ (l : List ℕ). ext.SaysExtensions next l w) (sym behind) x)
 
-      walk-says : ext.SaysExtensions next c (walkAt s next end reader.TREE)
-      walk-says = subst (λ (l : List ℕ). ext.SaysExtensions next l (walkAt s next end reader.TREE)) behind (extensions.answer-says s (slices .bytes) next end ahead inside)
+      walk-says : ext.SaysExtensions next c (walkAt s next end)
+      walk-says = subst (λ (l : List ℕ). ext.SaysExtensions next l (walkAt s next end)) behind (extensions.answer-says s (slices .bytes) next end ahead inside)
 
       -- where they are spelled, the walk tells the mark and the last TREE's place
       filled-walk : {es : List Ext} {sparse : Bool} {body : Body} → Extensions c es → Tells (Sparse ms es) sparse → ext.SaysBody TREE next es body
-          → (mark : Bool) × (walkAt s next end reader.TREE ≡ walked.Filled mark body) × (pick mark true (sparseBy false ms) ≡ sparse)
+          → (mark : Bool) × (walkAt s next end ≡ walked.Filled mark (record { tree = body })) × (pick mark true (sparseBy false ms) ≡ sparse)
       filled-walk {es} {sparse} {body} x t l =
           let x′ : Extensions (drop next (take end s)) es = subst (λ (z : List ℕ). Extensions z es) (sym behind) x in
-          let (mark, body₀, e) = extensions.filled-exactly-if-spelled s (slices .bytes) next end ahead inside .1 (es, x′) in
-          let m : Tells (ext.HasSdir es) mark = extensions.filled-exactly s (slices .bytes) next end ahead inside es x′ mark body₀ .0 e .0 in
-          (mark, walk-is (ext.says-filled x m l), tells-unique (ext.either-marks (sparse-tells ms) m) t)
+          let (mark, bodies, e) = extensions.filled-exactly-if-spelled s (slices .bytes) next end ahead inside .1 (es, x′) in
+          let m : Tells (ext.HasSdir es) mark = extensions.filled-exactly s (slices .bytes) next end ahead inside es x′ mark bodies .0 e .0 in
+          (mark, walk-is (ext.says-filled x m (record { tree = l })), tells-unique (ext.either-marks (sparse-tells ms) m) t)
 
       -- ---- the tree
 
@@ -179,9 +178,11 @@ module _ (kind : Kind) where
     some-extensions : said.Opened kind s → {b c : List ℕ} {ms : List Meaning} → said.AllEntries kind s rs ps ns b c ms → {w : Walked} → ext.SaysExtensions (headerLength + length b) c w → Some
     some-extensions o a (ext.says-not-filled f) = (_, said.says-not-filled o a f)
     some-extensions o a (ext.says-mandatory f) = (_, said.says-mandatory o a f)
-    some-extensions o {ms = ms} a (ext.says-filled {es = es} {sparse = mark} x m (ext.says-missing n)) = (_, said.says-no-TREE o a x (ext.either-marks (sparse-tells ms) m) n)
-    some-extensions o {ms = ms} a (ext.says-filled {es = es} {sparse = mark} x m (ext.says-lies l)) =
-        some-tree o (record { entries = a; extensions = x; mark = ext.either-marks (sparse-tells ms) m; last = l }) (tree-says o a x l)
+    some-extensions o {b = b} {ms = ms} a (ext.says-filled {es = es} {sparse = mark} x m bodies) = by (bodies .tree)
+      where
+        by : {body : Body} → ext.SaysBody TREE (headerLength + length b) es body → Some
+        by (ext.says-missing n) = (_, said.says-no-TREE o a x (ext.either-marks (sparse-tells ms) m) n)
+        by (ext.says-lies l) = some-tree o (record { entries = a; extensions = x; mark = ext.either-marks (sparse-tells ms) m; last = l }) (tree-says o a x l)
 
     some-entries : said.Opened kind s → {o : ran.Outcome} → entry.SaysRead (kind .id) (versionOf s) headerLength (space (kind .id) s) (countOf s) rs ps o → Some
     some-entries o (entry.says-done {b = b} {ms = ms} rest i x f) = let a : said.AllEntries kind s rs ps ns b rest ms = record { joins = i; spelled = x; fits = f } in some-extensions o a (walk-says o a)
