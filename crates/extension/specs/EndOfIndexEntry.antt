@@ -9,26 +9,15 @@ use Rattle.laws.specs.Pick.{pick}
 use Rattle.slices.specs.Bytes.{sameBytes}
 use Rattle.wire.specs.BigEndian.{beAt}
 use Rattle.wire.specs.Places.{fileAt}
-use Rattle.format.specs.Format.{headerSize}
+use Rattle.format.specs.Format.{headerSize, extensionHeaderSize, offsetSize, eoieSize, eoieWholeSize}
 use Rattle.kind.specs.Kind.{Kind}
-use Rattle.extension.specs.Signatures.{EOIE, extensionHeaderSize}
+use Rattle.extension.specs.Signatures.{EOIE}
 use Rattle.extension.specs.Iter.{Found, runAt, lastWhere, onBody}
 use Rattle.extension.specs.declared.iter.Body.{Body}
 use Rattle.extension.specs.declared.iter.Body.the-variants.{Missing}
 use Rattle.extension.specs.declared.end_of_index_entry.Prior.{Prior}
 use Rattle.extension.specs.declared.end_of_index_entry.Told.{Told}
 use Rattle.extension.specs.declared.end_of_index_entry.Told.the-variants.{Offset, Nothing}
-
--- how many bytes an offset takes
-abbrev pub offset-size : ℕ
-offset-size = 4
-
--- how long EOIE's body is, and how long it is with its header
-abbrev pub body-size : ℕ → ℕ
-body-size h = offset-size + h
-
-abbrev pub whole-size : ℕ → ℕ
-whole-size h = extensionHeaderSize + body-size h
 
 -- the headers of extensions, which are their signatures and sizes
 unfoldable pub headersOf : List ℕ → List Found → List (List ℕ)
@@ -45,7 +34,7 @@ priorAt kind s from end = record { sum = kind .hash (flatten (headersOf s (runAt
 -- the offset, where the extensions from it up to `start` have the hash that EOIE has, there are some, and the last of them ends at `start`
 unfoldable pub verifiedAt : Kind → List ℕ → ℕ → ℕ → Told
 verifiedAt kind s start offset =
-    pick (sameBytes (kind .hash (flatten (headersOf s (runAt s offset start .items)))) (take (kind .id) (drop (start + (extensionHeaderSize + offset-size)) s)))
+    pick (sameBytes (kind .hash (flatten (headersOf s (runAt s offset start .items)))) (take (kind .id) (drop (start + (extensionHeaderSize + offsetSize)) s)))
     (onBody (lastBody (runAt s offset start .items)) Nothing
     (λ first behind. pick (eqb behind start) (Offset (fileAt offset)) Nothing))
     Nothing
@@ -54,7 +43,7 @@ verifiedAt kind s start offset =
 unfoldable pub offsetAt : Kind → List ℕ → ℕ → Told
 offsetAt kind s start =
     pick (eqb (beAt 4 s start) EOIE)
-    (pick (eqb (beAt 4 s (start + 4)) (body-size (kind .id)))
+    (pick (eqb (beAt 4 s (start + 4)) (eoieSize (kind .id)))
     (pick (ltb (beAt 4 s (start + 8)) headerSize) Nothing
     (pick (ltb start (beAt 4 s (start + 8))) Nothing
     (verifiedAt kind s start (beAt 4 s (start + 8)))))
@@ -63,4 +52,4 @@ offsetAt kind s start =
 
 -- the EOIE in front of the trailer
 unfoldable pub offsetIn : Kind → List ℕ → Told
-offsetIn kind s = pick (ltb (length s) (whole-size (kind .id) + kind .id)) Nothing (offsetAt kind s (length s - (whole-size (kind .id) + kind .id)))
+offsetIn kind s = pick (ltb (length s) (eoieWholeSize (kind .id) + kind .id)) Nothing (offsetAt kind s (length s - (eoieWholeSize (kind .id) + kind .id)))

@@ -14,7 +14,8 @@ use Rattle.laws.specs.Tests.{Same, same, differs, same?, lt-or-ge}
 use Rattle.wire.specs.BigEndian.{beAt}
 use Rattle.wire.specs.Places.{fileAt}
 use Rattle.wire.specs.declared.FileAt.{FileAt}
-use Rattle.extension.specs.Signatures.{TREE, sdir, extensionHeaderSize}
+use Rattle.format.specs.Format.{extensionHeaderSize}
+use Rattle.extension.specs.Signatures.{TREE, sdir}
 use Rattle.extension.specs.Iter.{Found, Ending, filled, stray, runAt, bodyOf, ofSignature, lastWhere}
 use Rattle.extension.specs.Decode.{isForbidden, marks, sparseIn, judged, noBodies, bodiesIn, walkAt}
 use Rattle.extension.specs.Theorems.{Chain, chain-stray, chain-more, run-chain, chain-run}

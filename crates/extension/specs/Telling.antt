@@ -14,11 +14,11 @@ use Rattle.slices.specs.Laws.{same-refl, same-equal}
 use Rattle.wire.specs.BigEndian.{beAt}
 use Rattle.wire.specs.Places.{fileAt}
 use Rattle.wire.specs.declared.FileAt.{FileAt}
-use Rattle.format.specs.Format.{headerSize}
+use Rattle.format.specs.Format.{headerSize, extensionHeaderSize, offsetSize, eoieSize, eoieWholeSize}
 use Rattle.kind.specs.Kind.{Kind}
-use Rattle.extension.specs.Signatures.{EOIE, extensionHeaderSize}
+use Rattle.extension.specs.Signatures.{EOIE}
 use Rattle.extension.specs.Iter.{Found, Ending, filled, runAt, bodyOf, lastWhere, onBody}
-use Rattle.extension.specs.EndOfIndexEntry.{offset-size, body-size, whole-size, headersOf, lastBody, verifiedAt, offsetAt, offsetIn}
+use Rattle.extension.specs.EndOfIndexEntry.{headersOf, lastBody, verifiedAt, offsetAt, offsetIn}
 use Rattle.extension.specs.Theorems.{by-less, by-same, Chain, chain-filled, chain-stray, chain-more, run-chain, chain-run}
 use Rattle.extension.specs.declared.iter.Body.{Body}
 use Rattle.extension.specs.declared.iter.Body.the-variants.{Missing}
@@ -27,20 +27,20 @@ use Rattle.extension.specs.declared.end_of_index_entry.Told.the-variants
 
 -- where EOIE begins, over the length of an id
 abbrev pub beginning : ℕ → List ℕ → ℕ
-beginning h s = length s - (whole-size h + h)
+beginning h s = length s - (eoieWholeSize h + h)
 
 -- an EOIE that tells an offset truly
 pub record Tells (kind : Kind) (s : List ℕ) (offset : ℕ) : Type 0 where
-  pub long : whole-size (kind .id) + kind .id ≤ length s
+  pub long : eoieWholeSize (kind .id) + kind .id ≤ length s
   pub named : beAt 4 s (beginning (kind .id) s) ≡ EOIE
-  pub sized : beAt 4 s (beginning (kind .id) s + 4) ≡ body-size (kind .id)
+  pub sized : beAt 4 s (beginning (kind .id) s + 4) ≡ eoieSize (kind .id)
   pub told : beAt 4 s (beginning (kind .id) s + 8) ≡ offset
   pub low : headerSize ≤ offset
   pub high : offset ≤ beginning (kind .id) s
   pub first : Found
   pub rest : List Found
   pub fills : Chain s (beginning (kind .id) s) offset (first ∷ rest) filled
-  pub hashed : kind .hash (flatten (headersOf s (first ∷ rest))) ≡ take (kind .id) (drop (beginning (kind .id) s + (extensionHeaderSize + offset-size)) s)
+  pub hashed : kind .hash (flatten (headersOf s (first ∷ rest))) ≡ take (kind .id) (drop (beginning (kind .id) s + (extensionHeaderSize + offsetSize)) s)
 
 -- the last of some extensions ends where the chain does
 pub last-ends : {s : List ℕ} {end at : ℕ} (f : Found) (fs : List Found) {e : Ending} (b : Body) → Chain s end at (f ∷ fs) e
@@ -62,9 +62,9 @@ pub data SaysTold (kind : Kind) (s : List ℕ) : Told → Type 0 where
   is-told : {place : FileAt} → Tells kind s (place .0) → SaysTold kind s (Offset place)
   is-nothing : SaysTold kind s Nothing
 
-module _ (kind : Kind) (s : List ℕ) (long : whole-size (kind .id) + kind .id ≤ length s) (named : beAt 4 s (beginning (kind .id) s) ≡ EOIE) (sized : beAt 4 s (beginning (kind .id) s + 4) ≡ body-size (kind .id)) (offset : ℕ)
+module _ (kind : Kind) (s : List ℕ) (long : eoieWholeSize (kind .id) + kind .id ≤ length s) (named : beAt 4 s (beginning (kind .id) s) ≡ EOIE) (sized : beAt 4 s (beginning (kind .id) s + 4) ≡ eoieSize (kind .id)) (offset : ℕ)
     (told : beAt 4 s (beginning (kind .id) s + 8) ≡ offset) (low : headerSize ≤ offset) (high : offset ≤ beginning (kind .id) s) where
-  ended-says : (fs : List Found) {e : Ending} → Chain s (beginning (kind .id) s) offset fs e → kind .hash (flatten (headersOf s fs)) ≡ take (kind .id) (drop (beginning (kind .id) s + (extensionHeaderSize + offset-size)) s)
+  ended-says : (fs : List Found) {e : Ending} → Chain s (beginning (kind .id) s) offset fs e → kind .hash (flatten (headersOf s fs)) ≡ take (kind .id) (drop (beginning (kind .id) s + (extensionHeaderSize + offsetSize)) s)
       → SaysTold kind s (onBody (lastBody fs) Nothing (λ first behind. pick (eqb behind (beginning (kind .id) s)) (Offset (fileAt offset)) Nothing))
   unfolding lastWhere
   ended-says [] c y = is-nothing
@@ -83,9 +83,9 @@ module _ (kind : Kind) (s : List ℕ) (long : whole-size (kind .id) + kind .id �
 
   verified-says : SaysTold kind s (verifiedAt kind s (beginning (kind .id) s) offset)
   unfolding verifiedAt
-  verified-says = by (sameBytes (kind .hash (flatten (headersOf s (runAt s offset (beginning (kind .id) s) .items)))) (take (kind .id) (drop (beginning (kind .id) s + (extensionHeaderSize + offset-size)) s))) refl
+  verified-says = by (sameBytes (kind .hash (flatten (headersOf s (runAt s offset (beginning (kind .id) s) .items)))) (take (kind .id) (drop (beginning (kind .id) s + (extensionHeaderSize + offsetSize)) s))) refl
     where
-      by : (t : Bool) → sameBytes (kind .hash (flatten (headersOf s (runAt s offset (beginning (kind .id) s) .items)))) (take (kind .id) (drop (beginning (kind .id) s + (extensionHeaderSize + offset-size)) s)) ≡ t
+      by : (t : Bool) → sameBytes (kind .hash (flatten (headersOf s (runAt s offset (beginning (kind .id) s) .items)))) (take (kind .id) (drop (beginning (kind .id) s + (extensionHeaderSize + offsetSize)) s)) ≡ t
           → SaysTold kind s (pick t (onBody (lastBody (runAt s offset (beginning (kind .id) s) .items)) Nothing (λ first behind. pick (eqb behind (beginning (kind .id) s)) (Offset (fileAt offset)) Nothing)) Nothing)
       by true q = ended-says (runAt s offset (beginning (kind .id) s) .items) (run-chain s offset (beginning (kind .id) s)) (same-equal _ _ q)
       by false q = is-nothing
@@ -93,9 +93,9 @@ module _ (kind : Kind) (s : List ℕ) (long : whole-size (kind .id) + kind .id �
 pub told-says : (kind : Kind) (s : List ℕ) → SaysTold kind s (offsetIn kind s)
 unfolding offsetIn offsetAt
 told-says kind s =
-    by-less (SaysTold kind s) (length s) (whole-size (kind .id) + kind .id) (λ l. is-nothing)
+    by-less (SaysTold kind s) (length s) (eoieWholeSize (kind .id) + kind .id) (λ l. is-nothing)
     (λ long. by-same (SaysTold kind s) (beAt 4 s (beginning (kind .id) s)) EOIE
-    (λ named. by-same (SaysTold kind s) (beAt 4 s (beginning (kind .id) s + 4)) (body-size (kind .id))
+    (λ named. by-same (SaysTold kind s) (beAt 4 s (beginning (kind .id) s + 4)) (eoieSize (kind .id))
     (λ sized. by-less (SaysTold kind s) (beAt 4 s (beginning (kind .id) s + 8)) headerSize (λ l. is-nothing)
     (λ low. by-less (SaysTold kind s) (beginning (kind .id) s) (beAt 4 s (beginning (kind .id) s + 8)) (λ l. is-nothing)
     (λ high. verified-says kind s long named sized (beAt 4 s (beginning (kind .id) s + 8)) refl low high)))
@@ -117,9 +117,9 @@ tells-told kind s offset t =
     let l = last-ends (t .first) (t .rest) Missing (t .fills) in
     let z : l .0 .stop .0 ≡ beginning (kind .id) s = filled-ends (l .2) in
     rw (
-      le-ltb (length s) (whole-size (kind .id) + kind .id) (t .long),
+      le-ltb (length s) (eoieWholeSize (kind .id) + kind .id) (t .long),
       eq-eqb (beAt 4 s (beginning (kind .id) s)) EOIE (t .named),
-      eq-eqb (beAt 4 s (beginning (kind .id) s + 4)) (body-size (kind .id)) (t .sized),
+      eq-eqb (beAt 4 s (beginning (kind .id) s + 4)) (eoieSize (kind .id)) (t .sized),
       t .told,
       le-ltb offset headerSize (t .low),
       le-ltb (beginning (kind .id) s) offset (t .high),

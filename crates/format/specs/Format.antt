@@ -29,6 +29,20 @@ fixedExtendedSize = fieldsSize + 4
 abbrev pub longPath : ℕ
 longPath = 4095
 
+-- an extension's signature and size
+abbrev pub extensionHeaderSize : ℕ
+extensionHeaderSize = 8
+
+-- EOIE's offset; its body, which is that and a hash; and the whole of it
+abbrev pub offsetSize : ℕ
+offsetSize = 4
+
+abbrev pub eoieSize : ℕ → ℕ
+eoieSize id = offsetSize + id
+
+abbrev pub eoieWholeSize : ℕ → ℕ
+eoieWholeSize id = extensionHeaderSize + eoieSize id
+
 -- "depth is at most 64"; the root has depth 1
 abbrev pub depthLimit : ℕ
 depthLimit = 64

@@ -13,7 +13,7 @@ use Rattle.wire.specs.BigEndian.{bytesOf}
 use Rattle.sums.specs.Cap.{cap}
 use Rattle.entry.specs.Record.{recordsIn}
 use Rattle.refusal.specs.Refusal.{path-outside, short-output, too-large, not-proper}
-use Rattle.format.specs.Format.{headerSize}
+use Rattle.format.specs.Format.{headerSize, extensionHeaderSize, offsetSize, eoieSize, eoieWholeSize}
 use Rattle.kind.specs.Kind.{Kind}
 use Rattle.tree_write.specs.Tree.{treeBytes}
 use Rattle.proper.specs.Proper.{isProper}
@@ -67,7 +67,7 @@ extensionsOf (e ∷ es) = (extensionHead (e .signature) (length (e .body)) ++ e 
 -- how many these are
 unfoldable pub extensionsSize : List Extension → ℕ
 extensionsSize [] = 0
-extensionsSize (e ∷ es) = 8 + length (e .body) + extensionsSize es
+extensionsSize (e ∷ es) = extensionHeaderSize + length (e .body) + extensionsSize es
 
 -- their signatures and sizes, which EOIE hashes
 unfoldable pub contents : List Extension → List ℕ
@@ -76,7 +76,7 @@ contents (e ∷ es) = extensionHead (e .signature) (length (e .body)) ++ content
 
 -- EOIE: where the extensions start, and the hash of their signatures and sizes
 unfoldable pub eoiePart : Kind → Bool → ℕ → List ℕ → List ℕ
-eoiePart kind has offset toc = pick has ((extensionHead eoieSignature (4 + kind .id) ++ bytesOf 4 offset) ++ kind .hash toc) []
+eoiePart kind has offset toc = pick has ((extensionHead eoieSignature (eoieSize (kind .id)) ++ bytesOf offsetSize offset) ++ kind .hash toc) []
 
 unfoldable pub trailerOf : Kind → Bool → List ℕ → List ℕ
 trailerOf kind skips before = pick skips (replicate (kind .id) 0) (kind .hash before)
@@ -108,10 +108,10 @@ fileOf kind closed skips = closed ++ trailerOf kind skips closed
 
 -- how long an extension's head is that is there or not, and what stands behind the bytes before EOIE's place
 unfoldable pub headSize : Bool → ℕ
-headSize there = pick there 8 0
+headSize there = pick there extensionHeaderSize 0
 
 unfoldable pub endSize : ℕ → Bool → ℕ
-endSize id has = pick has (12 + id + id) id
+endSize id has = pick has (eoieWholeSize id + id) id
 
 -- ---- what is asked for
 

@@ -4,7 +4,7 @@ ghost use Prim.Native.Nat.{_+_, _≤_};
 ghost use lib.ListN.{length, take};
 ghost use Rattle.laws.specs.Put.{put};
 ghost use Rattle.sums.specs.Cap.{cap};
-ghost use Rattle.format.specs.Format.{depthLimit, idSize};
+ghost use Rattle.format.specs.Format.{depthLimit, idSize, headerSize};
 ghost use Rattle.kind.specs.Sha1.{sha1Kind};
 ghost use Rattle.write.specs.File.{headerOf, frontOf, extensionsIn, planBody, planFile, eoieFor, offsetOf, endOf, headSize, endSize, most, treeOf, treeFits, writesTree, hasEoie, Puts, Counted, outcome, writeTable, writeAll};
 use extension::Heads;
@@ -25,7 +25,7 @@ pub struct Options {
     pub eoie: bool,
     // the index is sparse, which `sdir` marks
     pub sparse: bool,
-    // 20 zeros stand in the place of the hash
+    // zeros stand in the place of the hash
     pub unhashed: bool,
 }
 
@@ -114,7 +114,7 @@ fn put_tree(nodes: &[u8], names: &[u8], writes: bool, tree: u32, out: &mut [u8],
 }
 
 fn put_header(version: u32, count: u32, out: &mut [u8])
-    requires { ⌜ 12 ≤ length (now out) ⌝ }
+    requires { ⌜ headerSize ≤ length (now out) ⌝ }
     ensures { λ _. ⌜ now (out .exit) ≡ put (now (out .entry)) 0 (headerOf version count) ⌝ }
 {
     let signature = *b"DIRC";
@@ -173,7 +173,7 @@ fn head_size(there: bool) -> usize
     ensures { λ r. ⌜ r ≡ headSize there ⌝ }
 {
     if there {
-        return 8;
+        return format::EXTENSION_HEADER_SIZE;
     }
     0
 }
@@ -183,7 +183,7 @@ fn end_size(has: bool) -> usize
     ensures { λ r. ⌜ r ≡ endSize idSize has ⌝ }
 {
     if has {
-        return 52;
+        return format::EOIE_WHOLE_SIZE + format::ID_SIZE;
     }
     format::ID_SIZE
 }
