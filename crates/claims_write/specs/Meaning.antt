@@ -6,7 +6,6 @@ use mathlib.Core.Bool.{true, false}
 use mathlib.Core.List.{List, [], _∷_, map}
 use lib.ListN.{length}
 use Rattle.laws.specs.Pick.{pick}
-use Rattle.format.specs.Format.{idSize}
 use Rattle.entry.specs.Flags.{bit, extended, toStorage, keepFlags}
 use Rattle.entry.specs.Record.{recordsIn, fieldAt, modeAt, flagsAt, stageAt, idAt, liesInside, pathAt}
 use Rattle.entry.specs.Stat.{statAt}
@@ -83,12 +82,12 @@ NoneRemoved rs = (i : ℕ) → i < recordsIn rs → isGone rs i ≡ false
 
 -- ---- WHAT READS BACK
 
--- record j of one table shows what record i of the other does: every field, the kept bits of the flags, and the path, which lies in its store
-pub record SameEntry (rs ps : List ℕ) (i : ℕ) (rs′ ps′ : List ℕ) (j : ℕ) : Type 0 where
+-- record j of one table shows what record i of the other does, over the length of an id: every field, the kept bits of the flags, and the path, which lies in its store
+pub record SameEntry (n : ℕ) (rs ps : List ℕ) (i : ℕ) (rs′ ps′ : List ℕ) (j : ℕ) : Type 0 where
   pub there : j < recordsIn rs′
   pub stat : statAt rs′ j ≡ statAt rs i
   pub mode : modeAt rs′ j ≡ modeAt rs i
-  pub id : idAt idSize rs′ j ≡ idAt idSize rs i
+  pub id : idAt n rs′ j ≡ idAt n rs i
   pub flags : flagsAt rs′ j ≡ keepFlags (flagsAt rs i)
   pub stage : stageAt rs′ j ≡ stageAt rs i
   pub inside : liesInside rs′ ps′ j ≡ true

@@ -9,7 +9,7 @@ use lib.ListN.{length, getD, take, replicate}
 use Rattle.slices.specs.Bytes.{sameBytes, nulIn, nulAt}
 use Rattle.wire.specs.BigEndian.{beAt, bytesOf}
 use Rattle.format.specs.Format.{idSize, depthLimit}
-use Rattle.sha1.specs.Sha1.{sha1}
+use Rattle.kind.specs.Sha1.{sha1Kind}
 use Rattle.entry.specs.Flags.{extendedToMemory}
 use Rattle.entry.specs.Mode.{keepMode, dirAt}
 use Rattle.entry.specs.Record.{recordsIn, modeAt, flagsAt, fieldAt, liesInside, pathAt, frontOf, restOf, recordOf, putRecord}
@@ -38,13 +38,13 @@ plain = record { tree = false; cache = false; eoie = false; sparse = false; unha
 -- a table over its paths, written into so many bytes
 unfoldable pub writing : List ℕ → List ℕ → ℕ → Outcome
 unfolding beAt bytesOf fieldAt liesInside pathAt faultOf stated fixedOf frontAt flagBytes entryOf recordBytes entriesBytes keptOf countOf anyExtended firstFault headerOf extensionHead contents eoiePart trailerOf write.frontOf extensionsOf bodyOf closedOf fileOf writesTree hasEoie treeFits bodyBytes fileBytes writeFile writeAll
-writing rs ps size = writeAll idSize sha1 depthLimit rs ps [] [] plain (replicate size 9)
+writing rs ps size = writeAll sha1Kind depthLimit rs ps [] [] plain (replicate size 9)
 
 -- and what the reader makes of them, with stores that are large enough
 unfoldable pub reading : List ℕ → List ℕ → ℕ → ReadOutcome
 unfolding writing readFile headerAt onVersion goodTrailer sameBytes entriesInto readEntries run least pathOf marked putRecord recordOf frontOf restOf keepMode dirAt measure.measureAt measure.headAt measure.headWith measure.extendedAt extendedToMemory measure.paddedAt measure.paddedTo measure.wholeOf nulAt nulIn extensionsInto walkAt runAt runBy stepAt judged sparseIn lastWhere
 reading rs ps size =
-    readFile idSize depthLimit (take size (writeAll idSize sha1 depthLimit rs ps [] [] plain (replicate size 9) .out))
+    readFile sha1Kind depthLimit (take size (writeAll sha1Kind depthLimit rs ps [] [] plain (replicate size 9) .out))
     (replicate (length rs) 9) (replicate (length ps) 9) []
 
 -- ---- THE CLAIM'S WORDS
@@ -60,7 +60,7 @@ AllMarksFit rs = (i : ℕ) → i < recordsIn rs → isGone rs i ≡ false → Ma
 pub record ReadsBackOtherwise (rs ps : List ℕ) (size records used : ℕ) : Type 0 where
   pub is-written : writing rs ps size .answer ≡ Done 2 size
   pub is-read : reading rs ps size .answer ≡ Read 2 false false records used 0
-  pub is-other : SameEntry rs ps 0 (reading rs ps size .records) (reading rs ps size .paths) 0 → ⊥
+  pub is-other : SameEntry idSize rs ps 0 (reading rs ps size .records) (reading rs ps size .paths) 0 → ⊥
 
 -- ---- the tables
 
