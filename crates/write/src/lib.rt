@@ -178,12 +178,15 @@ fn head_size(there: bool) -> usize
     0
 }
 
+// EOIE and the trailer.
+const END_SIZE: usize = format::EOIE_WHOLE_SIZE + format::ID_SIZE;
+
 // How many bytes EOIE, if it is written, and the trailer have.
 fn end_size(has: bool) -> usize
     ensures { λ r. ⌜ r ≡ endSize idSize has ⌝ }
 {
     if has {
-        return format::EOIE_WHOLE_SIZE + format::ID_SIZE;
+        return END_SIZE;
     }
     format::ID_SIZE
 }
