@@ -9,6 +9,7 @@ use lib.ListN.{length, take, replicate, length-take}
 use borrow.Author.Tests.{lt-ltb, le-ltb}
 use Rattle.refusal.specs.Bit.{bit}
 use Rattle.format.specs.Format.{idSize}
+use Rattle.kind.specs.Sha1.{sha1Kind}
 use Rattle.entry.specs.Layout.{recordSize}
 use Rattle.entry.specs.Record.{recordsIn, fieldAt, idAt}
 use Rattle.entry.specs.Laws.{field-out, id-out, inside-none, path-is}
@@ -88,21 +89,21 @@ module _ {s rs ps ns values rs′ ps′ ns′ : List ℕ} {code : ℕ} (call : R
     (returned : code ≡ 0) (m : Index) (means : File idSize s m) where
   pub meaning-told : values ≡ m .version ∷ bit (m .sparse) ∷ bit (hasTree (m .tree)) ∷ length (m .entries) ∷ length (pathsBytes (m .entries)) ∷ nodesOf (m .tree) ∷ 0 ∷ 0 ∷ []
   meaning-told =
-      let (o, x, y, one) = accepted-is-the-one-meaning s rs ps ns slices (zero-is-read call returned) in
+      let (o, x, y, one) = accepted-is-the-one-meaning sha1Kind s rs ps ns slices (zero-is-read call returned) in
       let same : o ≡ m = sym (one m means) in
       values-told call ∙ ap (λ (a : Answer). eight (carriedOf a)) (y .answer)
       ∙ ap (λ (m : Index). m .version ∷ bit (m .sparse) ∷ bit (hasTree (m .tree)) ∷ length (m .entries) ∷ length (pathsBytes (m .entries)) ∷ nodesOf (m .tree) ∷ 0 ∷ 0 ∷ []) same
 
   -- the tables that a caller lends on show it
-  pub tables-show : ShowsIndex s (recordsTold values rs′) ps′ (nodesTold values ns′) m
+  pub tables-show : ShowsIndex sha1Kind s (recordsTold values rs′) ps′ (nodesTold values ns′) m
   tables-show =
-      let (o, x, one, y, shown) = accepted-is-shown s rs ps ns slices (zero-is-read call returned) in
-      let all : ShowsIndex s rs′ ps′ ns′ m =
-      subst (ShowsIndex s rs′ ps′ ns′) (sym (one m means)) (subst (λ (u : Outcome). ShowsIndex s (u .records) (u .paths) (u .nodes) o) (left call) shown) in
+      let (o, x, one, y, shown) = accepted-is-shown sha1Kind s rs ps ns slices (zero-is-read call returned) in
+      let all : ShowsIndex sha1Kind s rs′ ps′ ns′ m =
+      subst (ShowsIndex sha1Kind s rs′ ps′ ns′) (sym (one m means)) (subst (λ (u : Outcome). ShowsIndex sha1Kind s (u .records) (u .paths) (u .nodes) o) (left call) shown) in
       let n : length (m .entries) ≡ value values 3 = sym (ap (λ (l : List ℕ). value l 3) meaning-told) in
       let k : nodesOf (m .tree) ≡ value values 5 = sym (ap (λ (l : List ℕ). value l 5) meaning-told) in
-      subst (λ (j : ℕ). ShowsIndex s (recordsTold values rs′) ps′ (take (j * nodeSize) ns′) m) k
-      (subst (λ (j : ℕ). ShowsIndex s (take (j * recordSize) rs′) ps′ (take (nodesOf (m .tree) * nodeSize) ns′) m) n (shown-by-the-first m all))
+      subst (λ (j : ℕ). ShowsIndex sha1Kind s (recordsTold values rs′) ps′ (take (j * nodeSize) ns′) m) k
+      (subst (λ (j : ℕ). ShowsIndex sha1Kind s (take (j * recordSize) rs′) ps′ (take (nodesOf (m .tree) * nodeSize) ns′) m) n (shown-by-the-first sha1Kind m all))
 
   -- and have no record too many
   pub records-are : recordsIn (recordsTold values rs′) ≡ length (m .entries)

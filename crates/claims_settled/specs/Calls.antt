@@ -7,7 +7,8 @@ use mathlib.Core.List.{List, []}
 use contract.Lifetimes.{Lfts}
 use denote.Ref.{now}
 use borrow.Fn.Kinds.{PK, RK, Out, Dens}
-use Rattle.format.specs.Format.{depthLimit, idSize}
+use Rattle.format.specs.Format.{depthLimit}
+use Rattle.kind.specs.Sha1.{sha1Kind}
 use Rattle.sha1.specs.Sha1 as fips
 use Rattle.sha1.specs.Pieces.{digestAfter, fed, finished}
 use Rattle.sha1.specs.declared.Digest.{Digest}
@@ -40,7 +41,7 @@ pub data FileReadCall : (s rs ps ns : List ℕ) → Answer → (rs′ ps′ ns�
   called : (c : Call file.read.Kinds.ps file.read.Kinds.r file.read.Reads.Learnt)
       → FileReadCall (now (c .args .0)) (now (c .args .1 .0)) (now (c .args .1 .1 .0)) (now (c .args .1 .1 .1 .0)) (c .answer) (c .left .1 .0) (c .left .1 .1 .0) (c .left .1 .1 .1 .0)
 
-pub file-read-answers : {s rs ps ns rs′ ps′ ns′ : List ℕ} {a : Answer} → FileReadCall s rs ps ns a rs′ ps′ ns′ → reading.outcome a rs′ ps′ ns′ ≡ reading.readFile idSize depthLimit s rs ps ns
+pub file-read-answers : {s rs ps ns rs′ ps′ ns′ : List ℕ} {a : Answer} → FileReadCall s rs ps ns a rs′ ps′ ns′ → reading.outcome a rs′ ps′ ns′ ≡ reading.readFile sha1Kind depthLimit s rs ps ns
 file-read-answers (called c) = c .meets
 
 -- ---- `write::write_to`, of a record table, a node table, what is asked for and an output: its answer, and what the output holds then
@@ -49,7 +50,7 @@ pub data WriteToCall : (rs ps ns nm : List ℕ) → Options → (out : List ℕ)
   called : (c : Call write.write_to.Kinds.ps write.write_to.Kinds.r write.write_to.Reads.Learnt)
       → WriteToCall (now (c .args .0)) (now (c .args .1 .0)) (now (c .args .1 .1 .0)) (now (c .args .1 .1 .1 .0)) (c .args .1 .1 .1 .1 .0) (now (c .args .1 .1 .1 .1 .1 .0)) (c .answer) (c .left .1 .1 .1 .1 .1 .0)
 
-pub write-to-answers : {rs ps ns nm out out′ : List ℕ} {o : Options} {a : Wrote} → WriteToCall rs ps ns nm o out a out′ → writing.outcome a out′ ≡ writing.writeAll idSize fips.sha1 depthLimit rs ps ns nm o out
+pub write-to-answers : {rs ps ns nm out out′ : List ℕ} {o : Options} {a : Wrote} → WriteToCall rs ps ns nm o out a out′ → writing.outcome a out′ ≡ writing.writeAll sha1Kind depthLimit rs ps ns nm o out
 write-to-answers (called c) = c .meets
 
 -- ---- `access::lookup` and `access::verify::verify_entries`, of a record table: their answers

@@ -8,6 +8,7 @@ use denote.Ref.{now}
 use Rattle.wire.specs.Places.{fileAt}
 use Rattle.format.specs.Format.{depthLimit, headerSize, idSize}
 use Rattle.sha1.specs.Sha1.{sha1}
+use Rattle.kind.specs.Sha1.{sha1Kind}
 use Rattle.entry.specs.Record.{idAt}
 use Rattle.decode.specs.Bounds.{maxEntries}
 use Rattle.decode.specs.Entries.{readEntries}
@@ -34,7 +35,7 @@ pub data ReadCall : (s rs ps ns : List ℕ) (code : ℕ) (values rs′ ps′ ns�
       → ReadCall (now (c .args .0)) (now (c .args .1 .0)) (now (c .args .1 .1 .0)) (now (c .args .1 .1 .1 .0)) (c .answer) (c .left .1 .1 .1 .1 .0) (c .left .1 .0) (c .left .1 .1 .0) (c .left .1 .1 .1 .0)
 
 pub read-tells : {s rs ps ns values rs′ ps′ ns′ : List ℕ} {code : ℕ} → ReadCall s rs ps ns code values rs′ ps′ ns′
-    → told code values (rs′ ∷ ps′ ∷ ns′ ∷ []) ≡ tellRead (readFile idSize depthLimit s rs ps ns)
+    → told code values (rs′ ∷ ps′ ∷ ns′ ∷ []) ≡ tellRead (readFile sha1Kind depthLimit s rs ps ns)
 read-tells (called c) = c .meets
 
 -- of a file, a version, a count and two stores
@@ -72,7 +73,7 @@ pub data WriteCall : (rs ps ns nm : List ℕ) (options : ℕ) (out : List ℕ) (
       → WriteCall (now (c .args .0)) (now (c .args .1 .0)) (now (c .args .1 .1 .0)) (now (c .args .1 .1 .1 .0)) (c .args .1 .1 .1 .1 .0) (now (c .args .1 .1 .1 .1 .1 .0)) (c .answer) (c .left .1 .1 .1 .1 .1 .1 .0) (c .left .1 .1 .1 .1 .1 .0)
 
 pub write-tells : {rs ps ns nm out values out′ : List ℕ} {options code : ℕ} → WriteCall rs ps ns nm options out code values out′
-    → told code values (out′ ∷ []) ≡ tellWrite (writeAll idSize sha1 depthLimit rs ps ns nm (optionsFrom options) out)
+    → told code values (out′ ∷ []) ≡ tellWrite (writeAll sha1Kind depthLimit rs ps ns nm (optionsFrom options) out)
 write-tells (called c) = c .meets
 
 -- ---- extensions
@@ -83,7 +84,7 @@ pub data EoieCall : (s : List ℕ) (code : ℕ) (values : List ℕ) → Type 0 w
       → EoieCall (now (c .args .0)) (c .answer) (c .left .1 .0)
 
 pub eoie-tells : {s values : List ℕ} {code : ℕ} → EoieCall s code values
-    → told code values [] ≡ tellOffset (offsetIn idSize sha1 s)
+    → told code values [] ≡ tellOffset (offsetIn sha1Kind s)
 eoie-tells (called c) = c .meets
 
 -- of a file and the place where its extensions begin
