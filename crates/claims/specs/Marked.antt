@@ -24,7 +24,7 @@ use Rattle.decode.specs.Entries.{run, least, readEntries}
 use Rattle.decode.specs.Bounds.{blockSize, minEntrySize, maxEntries}
 use Rattle.decode.specs.declared.entries.Extensions.the-variants.{NotTold}
 use Rattle.extension.specs.Iter.{stepAt, runBy, runAt, lastWhere}
-use Rattle.extension.specs.Decode.{sparseIn, judged, walkAt}
+use Rattle.extension.specs.Decode.{sparseIn, judged, allAt}
 use Rattle.access.specs.Verify.{followsAt, verifyFrom, verifyAt}
 use Rattle.access.specs.declared.verify.Verified.{Verified}
 use Rattle.access.specs.declared.verify.Verified.the-variants.{Sorted}
@@ -196,5 +196,5 @@ pages =
 
 -- THE THEOREM
 pub marked-pages : map (λ (p : Page). answer (p .asked)) pages ≡ map (λ (p : Page). p .said) pages
-unfolding pages page pair pear ear answer table row paths recordOf frontOf restOf fieldAt liesInside pathAt keepMode laws.compared verifyAt verifyFrom followsAt measureAt headAt headWith extendedAt extendedToMemory beAt bytesOf paddedAt paddedTo wholeOf nulAt nulIn compressedAt keptOf suffixedAt numberAt groupsIn maxEntries blockSize minEntrySize readFile headerAt onVersion goodTrailer sameBytes entriesInto readEntries run least extensionsInto walkAt runAt runBy stepAt judged sparseIn lastWhere
+unfolding pages page pair pear ear answer table row paths recordOf frontOf restOf fieldAt liesInside pathAt keepMode laws.compared verifyAt verifyFrom followsAt measureAt headAt headWith extendedAt extendedToMemory beAt bytesOf paddedAt paddedTo wholeOf nulAt nulIn compressedAt keptOf suffixedAt numberAt groupsIn maxEntries blockSize minEntrySize readFile headerAt onVersion goodTrailer sameBytes entriesInto readEntries run least extensionsInto allAt runAt runBy stepAt judged sparseIn lastWhere
 marked-pages = refl

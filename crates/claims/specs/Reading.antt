@@ -13,15 +13,15 @@ use Rattle.kind.specs.Kind.{Kind}
 use Rattle.decode.specs.Header.{headerAt}
 use Rattle.decode.specs.Entries as ran
 use Rattle.decode.specs.declared.header.Header.{Header as Opening}
-use Rattle.extension.specs.Decode.{walkAt}
+use Rattle.extension.specs.Decode.{allAt}
 use Rattle.extension.specs.declared.iter.Body.{Body}
-use Rattle.extension.specs.declared.decode.Walked.{Walked}
-use Rattle.extension.specs.declared.decode.Walked.the-variants as walked
+use Rattle.extension.specs.declared.decode.Space.{Space}
+use Rattle.extension.specs.declared.decode.Space.the-variants as of-space
 use Rattle.tree.specs.Tree.{readTree}
 use Rattle.tree.specs.declared.TreeAnswer.{TreeAnswer}
 use Rattle.tree.specs.declared.TreeAnswer.the-variants as grown
 use Rattle.file.specs.Trailer.{goodTrailer, good-exactly}
-use Rattle.file.specs.Read.{Outcome, grownInto, onWalked, extensionsInto, withNodes, afterEntries, entriesInto, readFile}
+use Rattle.file.specs.Read.{Outcome, grownInto, onSpace, extensionsInto, withNodes, afterEntries, entriesInto, readFile}
 use Rattle.file.specs.declared.Entries.{Entries as Sofar}
 use Rattle.file.specs.declared.Answer.the-variants as answer
 use Rattle.grammar.specs.Entry.{Meaning}
@@ -92,29 +92,29 @@ module _ (kind : Kind) where
       inside : end ≤ length s
       inside = omega arith
 
-      all-read : {w : Walked} → walkAt s next end ≡ w
-          → reading ≡ withNodes (entry.filled rs (recordsBytes (kind .id) 0 ms)) (entry.filled ps (pathsBytes ms)) (onWalked (kind .id) depthLimit s (sofar ms) ns w)
+      all-read : {w : Space} → allAt s next end ≡ w
+          → reading ≡ withNodes (entry.filled rs (recordsBytes (kind .id) 0 ms)) (entry.filled ps (pathsBytes ms)) (onSpace (kind .id) depthLimit s (sofar ms) ns w)
       unfolding extensionsInto
       all-read e =
           entries-are o (entry.says-done c (a .joins) (a .spelled) (a .fits))
-          ∙ ap (λ (v : Walked). withNodes (entry.filled rs (recordsBytes (kind .id) 0 ms)) (entry.filled ps (pathsBytes ms)) (onWalked (kind .id) depthLimit s (sofar ms) ns v)) e
+          ∙ ap (λ (v : Space). withNodes (entry.filled rs (recordsBytes (kind .id) 0 ms)) (entry.filled ps (pathsBytes ms)) (onSpace (kind .id) depthLimit s (sofar ms) ns v)) e
 
       -- ---- the extensions
 
-      walk-is : {w : Walked} → ext.SaysExtensions next c w → walkAt s next end ≡ w
-      walk-is {w} x = extensions.no-second-answer s (slices .bytes) next end ahead inside (subst (λ (l : List ℕ). ext.SaysExtensions next l w) (sym behind) x)
+      all-is : {w : Space} → ext.SaysExtensions next c w → allAt s next end ≡ w
+      all-is {w} x = extensions.no-second-answer s (slices .bytes) next end ahead inside (subst (λ (l : List ℕ). ext.SaysExtensions next l w) (sym behind) x)
 
-      walk-says : ext.SaysExtensions next c (walkAt s next end)
-      walk-says = subst (λ (l : List ℕ). ext.SaysExtensions next l (walkAt s next end)) behind (extensions.answer-says s (slices .bytes) next end ahead inside)
+      all-says : ext.SaysExtensions next c (allAt s next end)
+      all-says = subst (λ (l : List ℕ). ext.SaysExtensions next l (allAt s next end)) behind (extensions.answer-says s (slices .bytes) next end ahead inside)
 
       -- where they are spelled, the walk tells the mark and the last TREE's place
-      filled-walk : {es : List Ext} {sparse : Bool} {body : Body} → Extensions c es → Tells (Sparse ms es) sparse → ext.SaysBody TREE next es body
-          → (mark : Bool) × (walkAt s next end ≡ walked.Filled mark (record { tree = body })) × (pick mark true (sparseBy false ms) ≡ sparse)
-      filled-walk {es} {sparse} {body} x t l =
+      filled-space : {es : List Ext} {sparse : Bool} {body : Body} → Extensions c es → Tells (Sparse ms es) sparse → ext.SaysBody TREE next es body
+          → (mark : Bool) × (allAt s next end ≡ of-space.Filled mark (record { tree = body })) × (pick mark true (sparseBy false ms) ≡ sparse)
+      filled-space {es} {sparse} {body} x t l =
           let x′ : Extensions (drop next (take end s)) es = subst (λ (z : List ℕ). Extensions z es) (sym behind) x in
           let (mark, bodies, e) = extensions.filled-exactly-if-spelled s (slices .bytes) next end ahead inside .1 (es, x′) in
           let m : Tells (ext.HasSdir es) mark = extensions.filled-exactly s (slices .bytes) next end ahead inside es x′ mark bodies .0 e .0 in
-          (mark, walk-is (ext.says-filled x m (record { tree = l })), tells-unique (ext.either-marks (sparse-tells ms) m) t)
+          (mark, all-is (ext.says-filled x m (record { tree = l })), tells-unique (ext.either-marks (sparse-tells ms) m) t)
 
       -- ---- the tree
 
@@ -140,7 +140,7 @@ module _ (kind : Kind) where
         → {p : TreeAnswer × List ℕ} → tree.SaysReadTree (kind .id) place body depthLimit ns p
         → reading ≡ withNodes (entry.filled rs (recordsBytes (kind .id) 0 ms)) (entry.filled ps (pathsBytes ms)) (grownInto (record { version = versionOf s; sparse = sparse; records = countOf s; used = length (pathsBytes ms) }) p)
     tree-read o {ms = ms} w y =
-        let (mark, e, q) = filled-walk o (w .entries) (w .extensions) (w .mark) (ext.says-lies (w .last)) in
+        let (mark, e, q) = filled-space o (w .entries) (w .extensions) (w .mark) (ext.says-lies (w .last)) in
         all-read o (w .entries) e
         ∙ (λ i. withNodes (entry.filled rs (recordsBytes (kind .id) 0 ms)) (entry.filled ps (pathsBytes ms))
         (grownInto (record { version = versionOf s; sparse = q i; records = countOf s; used = length (pathsBytes ms) }) (tree-is o (w .entries) (w .extensions) (w .last) y i)))
@@ -154,10 +154,10 @@ module _ (kind : Kind) where
     no-second-answer (said.says-bad-trailer g t) = rw (headed (says-opens g), untrue (goodTrailer kind s) (λ e. t (good-exactly kind s .0 e)))
     no-second-answer (said.says-not-spelled o rest h i x f none) = entries-are o (entry.says-not-spelled rest h i x f none)
     no-second-answer (said.says-no-entry-room o rest q h i x f y lacks) = entries-are o (entry.says-no-room rest q h i x f y lacks)
-    no-second-answer (said.says-not-filled o a f) = all-read o a (walk-is o a (ext.says-not-filled f))
-    no-second-answer (said.says-mandatory o a f) = all-read o a (walk-is o a (ext.says-mandatory f))
+    no-second-answer (said.says-not-filled o a f) = all-read o a (all-is o a (ext.says-not-filled f))
+    no-second-answer (said.says-mandatory o a f) = all-read o a (all-is o a (ext.says-mandatory f))
     no-second-answer (said.says-no-TREE o {ms = ms} a x t n) =
-        let (mark, e, q) = filled-walk o a x t (ext.says-missing n) in
+        let (mark, e, q) = filled-space o a x t (ext.says-missing n) in
         all-read o a e ∙ (λ i. said.holding kind s rs ps ns ms (said.readAs kind s rs ps ns (q i) false ms 0))
     no-second-answer (said.says-tree o w x h k) = tree-read o w (tree.says-tree x h k)
     no-second-answer (said.says-malformed o w f d e) = tree-read o w (tree.says-malformed f d e)
@@ -175,7 +175,7 @@ module _ (kind : Kind) where
     some-tree o w (tree.says-no-room f d) = (_, said.says-no-node-room o w f d)
     some-tree o w (tree.says-malformed f d e) = (_, said.says-malformed o w f d e)
 
-    some-extensions : said.Opened kind s → {b c : List ℕ} {ms : List Meaning} → said.AllEntries kind s rs ps ns b c ms → {w : Walked} → ext.SaysExtensions (headerLength + length b) c w → Some
+    some-extensions : said.Opened kind s → {b c : List ℕ} {ms : List Meaning} → said.AllEntries kind s rs ps ns b c ms → {w : Space} → ext.SaysExtensions (headerLength + length b) c w → Some
     some-extensions o a (ext.says-not-filled f) = (_, said.says-not-filled o a f)
     some-extensions o a (ext.says-mandatory f) = (_, said.says-mandatory o a f)
     some-extensions o {b = b} {ms = ms} a (ext.says-filled {es = es} {sparse = mark} x m bodies) = by (bodies .tree)
@@ -185,7 +185,7 @@ module _ (kind : Kind) where
         by (ext.says-lies l) = some-tree o (record { entries = a; extensions = x; mark = ext.either-marks (sparse-tells ms) m; last = l }) (tree-says o a x l)
 
     some-entries : said.Opened kind s → {o : ran.Outcome} → entry.SaysRead (kind .id) (versionOf s) headerLength (space (kind .id) s) (countOf s) rs ps o → Some
-    some-entries o (entry.says-done {b = b} {ms = ms} rest i x f) = let a : said.AllEntries kind s rs ps ns b rest ms = record { joins = i; spelled = x; fits = f } in some-extensions o a (walk-says o a)
+    some-entries o (entry.says-done {b = b} {ms = ms} rest i x f) = let a : said.AllEntries kind s rs ps ns b rest ms = record { joins = i; spelled = x; fits = f } in some-extensions o a (all-says o a)
     some-entries o (entry.says-not-spelled rest h i x f none) = (_, said.says-not-spelled o rest h i x f none)
     some-entries o (entry.says-no-room rest q h i x f y lacks) = (_, said.says-no-entry-room o rest q h i x f y lacks)
 

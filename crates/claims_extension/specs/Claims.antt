@@ -1,4 +1,4 @@
--- THE CLAIMS on extensions: what `walkAt` answers of the space behind the entries is said by the grammar alone. `SaysExtensions` has one rule for each answer; the walk gives an
+-- THE CLAIMS on extensions: what `allAt` answers of the space behind the entries is said by the grammar alone. `SaysExtensions` has one rule for each answer; the walk gives an
 -- answer of which its rule holds, and the only one. Filled, with the mark and, for each signature that the reader goes into, the last body, exactly if extensions that may stand
 -- fill the space; 7 and 8 exactly where the grammar has that fault. Assumes that the file is bytes and that the space lies in it, each a premise with a name.
 use Prim.Native.Nat.{ℕ, _+_, _≤_}
@@ -8,13 +8,13 @@ use mathlib.Core.List.{List}
 use mathlib.Core.Logic.{_↔_}
 use lib.ListN.{length}
 use Rattle.wire.specs.Places.{fileAt}
-use Rattle.extension.specs.Decode.{walkAt}
-use Rattle.extension.specs.Filling.{SaysWalk, is-filled, is-not-filled, is-mandatory, walk-says}
+use Rattle.extension.specs.Decode.{allAt}
+use Rattle.extension.specs.Filling.{SaysAll, is-filled, is-not-filled, is-mandatory, all-says}
 use Rattle.extension.specs.declared.iter.Body.{Body}
 use Rattle.extension.specs.declared.iter.Body.the-variants.{Lies, Missing}
 use Rattle.extension.specs.declared.decode.Bodies.{Bodies}
-use Rattle.extension.specs.declared.decode.Walked.{Walked}
-use Rattle.extension.specs.declared.decode.Walked.the-variants.{Filled, NotFilled, Mandatory}
+use Rattle.extension.specs.declared.decode.Space.{Space}
+use Rattle.extension.specs.declared.decode.Space.the-variants.{Filled, NotFilled, Mandatory}
 use Rattle.grammar.specs.Number.{bigEndian}
 use Rattle.grammar.specs.Extension.{Ext, Extensions, NoneSigned, LastSigned}
 use Rattle.grammar.specs.File.{Tells}
@@ -47,34 +47,34 @@ module _ (s : List ℕ) (bytes : Bytes s) (from end : ℕ) (ahead : from ≤ end
   space = extensionsSpace s from end
 
   -- what the reader's contract cites
-  abbrev walked : Walked
-  walked = walkAt s from end
+  abbrev walked : Space
+  walked = allAt s from end
 
   -- of the answer that is given its rule holds
   pub answer-says : SaysExtensions from space walked
-  answer-says = of (walk-says s from end)
+  answer-says = of (all-says s from end)
     where
-      of : {w : Walked} → SaysWalk s from end w → SaysExtensions from space w
+      of : {w : Space} → SaysAll s from end w → SaysExtensions from space w
       of (is-filled c n m l) = let (es, x, y) = chain-fills s bytes end inside c n in says-filled y (mark-says x m) (record { tree = body-says TREE-bytes x (l .tree) })
       of (is-not-filled c n) = says-not-filled (chain-strays s bytes end inside ahead c n)
       of (is-mandatory c n) = let (signature, x, e) = chain-refused s bytes end inside c n in rw e (says-mandatory x)
 
   -- and of no other
-  pub no-second-answer : {w : Walked} → SaysExtensions from space w → walked ≡ w
+  pub no-second-answer : {w : Space} → SaysExtensions from space w → walked ≡ w
   no-second-answer x = one-answer answer-says x
 
   -- where the space is spelled a mark and bodies are told
   told : (es : List Ext) → Extensions space es → (sparse : Bool) × (bodies : Bodies) × Tells (HasSdir es) sparse × SaysBodies from es bodies
   told es x = of answer-says
     where
-      of : {w : Walked} → SaysExtensions from space w → (sparse : Bool) × (bodies : Bodies) × Tells (HasSdir es) sparse × SaysBodies from es bodies
+      of : {w : Space} → SaysExtensions from space w → (sparse : Bool) × (bodies : Bodies) × Tells (HasSdir es) sparse × SaysBodies from es bodies
       of (says-filled {es = fs} {sparse = sparse} {bodies = bodies} y m l) = let e : fs ≡ es = extensions-unique space fs es y x in (sparse, bodies, (rw e at m), (rw e at l))
       of (says-not-filled f) = absurd (fault-not-spelled f x)
       of (says-mandatory f) = absurd (fault-not-spelled f x)
 
   -- ---- THE THEOREMS
 
-  pub says-exactly : (w : Walked) → (walked ≡ w) ↔ SaysExtensions from space w
+  pub says-exactly : (w : Space) → (walked ≡ w) ↔ SaysExtensions from space w
   says-exactly w = ((λ e. subst (SaysExtensions from space) e answer-says), no-second-answer)
 
   -- the mark and the bodies

@@ -11,8 +11,8 @@ use Rattle.wire.specs.Places.{fileAt}
 use Rattle.extension.specs.declared.iter.Body.{Body}
 use Rattle.extension.specs.declared.iter.Body.the-variants.{Lies, Missing}
 use Rattle.extension.specs.declared.decode.Bodies.{Bodies}
-use Rattle.extension.specs.declared.decode.Walked.{Walked}
-use Rattle.extension.specs.declared.decode.Walked.the-variants.{Filled, NotFilled, Mandatory}
+use Rattle.extension.specs.declared.decode.Space.{Space}
+use Rattle.extension.specs.declared.decode.Space.the-variants.{Filled, NotFilled, Mandatory}
 use Rattle.grammar.specs.Number.{bigEndian}
 use Rattle.grammar.specs.Entry.{Meaning}
 use Rattle.grammar.specs.Extension.{Ext, sdir, TREE, Extensions, NoneSigned, another, LastSigned, last-signed}
@@ -43,7 +43,7 @@ pub record SaysBodies (from : ℕ) (es : List Ext) (bodies : Bodies) : Type 0 wh
   pub tree : SaysBody TREE from es (bodies .tree)
 
 -- what each answer of the walk says: xs is the extensions' space, which starts at `from`
-pub data SaysExtensions (from : ℕ) (xs : List ℕ) : Walked → Type 0 where
+pub data SaysExtensions (from : ℕ) (xs : List ℕ) : Space → Type 0 where
   -- extensions that may stand fill it
   says-filled : {es : List Ext} {sparse : Bool} {bodies : Bodies} → Extensions xs es → Tells (HasSdir es) sparse → SaysBodies from es bodies → SaysExtensions from xs (Filled sparse bodies)
   -- 7: behind some of them stand bytes that begin with no extension
@@ -52,7 +52,7 @@ pub data SaysExtensions (from : ℕ) (xs : List ℕ) : Walked → Type 0 where
   says-mandatory : {signature : List ℕ} → Faulty from xs (refused signature) → SaysExtensions from xs (Mandatory (bigEndian signature))
 
 -- an answer is Filled
-abbrev pub IsFilled : Walked → Type 0
+abbrev pub IsFilled : Space → Type 0
 IsFilled w = (sparse : Bool) × (bodies : Bodies) × (w ≡ Filled sparse bodies)
 
 -- the space is spelled
@@ -77,7 +77,7 @@ one-bodies x y = λ i. record { tree = one-body (x .tree) (y .tree) i }
 two-faults : {place : ℕ} {signature : List ℕ} → stray place ≡ refused signature → ⊥
 two-faults e = let z : _≡_ {A = ℕ} 0 1 = cc in omega arith
 
-pub one-answer : {from : ℕ} {xs : List ℕ} {v w : Walked} → SaysExtensions from xs v → SaysExtensions from xs w → v ≡ w
+pub one-answer : {from : ℕ} {xs : List ℕ} {v w : Space} → SaysExtensions from xs v → SaysExtensions from xs w → v ≡ w
 one-answer {from} {xs} (says-filled {es = es} {sparse = a} {bodies = b} x m l) (says-filled {es = fs} {sparse = c} {bodies = d} y n k) =
     let e : fs ≡ es = extensions-unique xs fs es y x in
     let n₂ : Tells (HasSdir es) c = rw e at n in

@@ -8,9 +8,9 @@ use borrow.Fn.Kinds.{Dens}
 use Rattle.laws.specs.Put.{put}
 use Rattle.format.specs.Format.{depthLimit}
 use Rattle.kind.specs.Sha1.{sha1Kind}
-use Rattle.listing.specs.Listed.{listed}
-use Rattle.listing.specs.Fits.{listingRoom, listing-whole}
-use Rattle.listing.proofs as listing
+use Rattle.list_text.specs.Listed.{listed}
+use Rattle.list_text.specs.Fits.{listingRoom, listing-whole}
+use Rattle.list_text.proofs as listing
 use Rattle.claims_settled.specs.Law.{Result, Stores, Meets}
 
 module _ (κs : _) (a : Dens κs listing.list_file.Kinds.ps) (z : Result listing.list_file.Kinds.ps listing.list_file.Kinds.r κs) (w : Stores listing.list_file.Kinds.ps listing.list_file.Kinds.r κs a) where

@@ -17,7 +17,7 @@ use Rattle.measure.specs.Entry as measure
 use Rattle.decode.specs.Header.{onVersion, headerAt}
 use Rattle.decode.specs.Entries.{pathOf, marked, run, least, readEntries}
 use Rattle.extension.specs.Iter.{stepAt, runBy, runAt, lastWhere}
-use Rattle.extension.specs.Decode.{sparseIn, judged, walkAt}
+use Rattle.extension.specs.Decode.{sparseIn, judged, allAt}
 use Rattle.grammar.specs.Entry.{keptMode}
 use Rattle.file.specs.Trailer.{goodTrailer}
 use Rattle.file.specs.Read.{Outcome as ReadOutcome, extensionsInto, entriesInto, readFile}
@@ -42,7 +42,7 @@ writing rs ps size = writeAll sha1Kind depthLimit rs ps [] [] plain (replicate s
 
 -- and what the reader makes of them, with stores that are large enough
 unfoldable pub reading : List ℕ → List ℕ → ℕ → ReadOutcome
-unfolding writing readFile headerAt onVersion goodTrailer sameBytes entriesInto readEntries run least pathOf marked putRecord recordOf frontOf restOf keepMode dirAt measure.measureAt measure.headAt measure.headWith measure.extendedAt extendedToMemory measure.paddedAt measure.paddedTo measure.wholeOf nulAt nulIn extensionsInto walkAt runAt runBy stepAt judged sparseIn lastWhere
+unfolding writing readFile headerAt onVersion goodTrailer sameBytes entriesInto readEntries run least pathOf marked putRecord recordOf frontOf restOf keepMode dirAt measure.measureAt measure.headAt measure.headWith measure.extendedAt extendedToMemory measure.paddedAt measure.paddedTo measure.wholeOf nulAt nulIn extensionsInto allAt runAt runBy stepAt judged sparseIn lastWhere
 reading rs ps size =
     readFile sha1Kind depthLimit (take size (writeAll sha1Kind depthLimit rs ps [] [] plain (replicate size 9) .out))
     (replicate (length rs) 9) (replicate (length ps) 9) []

@@ -22,7 +22,7 @@ use Rattle.kind.specs.Sha1.{sha1Kind}
 use Rattle.extension.specs.Signatures.{TREE, sdir, firstByte, IEOT, EOIE}
 use Rattle.extension.specs.Iter.{extensionAt, stepAt, Run, runAt, firstWhere, lastWhere, firstAt}
 use Rattle.extension.specs.Theorems.{Met, met, Tabled, tabled, run-done, run-broken, run-more}
-use Rattle.extension.specs.Decode.{mandatory, forbidden, marks, latest, latestOf, sparseIn, judged, walkFrom}
+use Rattle.extension.specs.Decode.{mandatory, forbidden, marks, latest, latestOf, sparseIn, judged, allFrom}
 use Rattle.extension.specs.IndexEntryOffsetTable.{tableAt, pairIn, tableIn, tableFrom, pairFrom}
 use Rattle.extension.specs.EndOfIndexEntry.{headersOf, lastBody, priorAt, verifiedAt, offsetAt, offsetIn}
 use Rattle.extension.specs.declared.end_of_index_entry.Prior.{Prior}
@@ -34,8 +34,8 @@ use Rattle.extension.specs.declared.iter.Step.the-variants.{Extension, D
 use Rattle.extension.specs.declared.iter.Body.{Body}
 use Rattle.extension.specs.declared.iter.Body.the-variants.{Lies, Missing}
 use Rattle.extension.specs.declared.decode.Bodies.{Bodies}
-use Rattle.extension.specs.declared.decode.Walked.{Walked}
-use Rattle.extension.specs.declared.decode.Walked.the-variants.{Filled, NotFilled, Mandatory}
+use Rattle.extension.specs.declared.decode.Space.{Space}
+use Rattle.extension.specs.declared.decode.Space.the-variants.{Filled, NotFilled, Mandatory}
 use Rattle.extension.specs.declared.index_entry_offset_table.Table.{Table}
 use Rattle.extension.specs.declared.index_entry_offset_table.Table.the-variants.{Pairs, NoTable}
 use Rattle.extension.specs.declared.index_entry_offset_table.Offset.{Offset}
@@ -106,25 +106,25 @@ pub ruleset firsts = (step-less, first-done, first-broken, first-here, first-nex
 
 -- ---- the walk: what is left of it, from the present cursor, comes to r
 
-module _ (s : List ℕ) (c : Cursor) (x : Step) (e : x ≡ stepAt s (c .at .0) (c .end .0)) (sparse : Bool) (last : Bodies) (r : Walked)
-    (inv : walkFrom sparse last (runAt s (c .at .0) (c .end .0)) ≡ r) where
-  pub walk-done : x ≡ Done → Filled sparse last ≡ r
+module _ (s : List ℕ) (c : Cursor) (x : Step) (e : x ≡ stepAt s (c .at .0) (c .end .0)) (sparse : Bool) (last : Bodies) (r : Space)
+    (inv : allFrom sparse last (runAt s (c .at .0) (c .end .0)) ≡ r) where
+  pub all-done : x ≡ Done → Filled sparse last ≡ r
   unfolding judged sparseIn lastWhere
-  walk-done q = sym (rw (run-done s (c .at .0) (c .end .0) (sym e ∙ q))) ∙ inv
+  all-done q = sym (rw (run-done s (c .at .0) (c .end .0) (sym e ∙ q))) ∙ inv
 
-  pub walk-broken : x ≡ Broken → NotFilled (c .at) ≡ r
+  pub all-broken : x ≡ Broken → NotFilled (c .at) ≡ r
   unfolding judged
-  walk-broken q = sym (rw (run-broken s (c .at .0) (c .end .0) (sym e ∙ q))) ∙ inv
+  all-broken q = sym (rw (run-broken s (c .at .0) (c .end .0) (sym e ∙ q))) ∙ inv
 
   module _ (signature : ℕ) (start stop : FileAt) (next : Cursor) (q : x ≡ Extension signature start stop next) (t : Bool) (o : t ≡ forbidden signature (start .0) (stop .0)) where
-    pub walk-forbidden : t ≡ true → Mandatory signature ≡ r
+    pub all-forbidden : t ≡ true → Mandatory signature ≡ r
     unfolding judged
-    walk-forbidden y = sym (rw (run-more s (c .at .0) (c .end .0) (sym e ∙ q), ← o, y)) ∙ inv
+    all-forbidden y = sym (rw (run-more s (c .at .0) (c .end .0) (sym e ∙ q), ← o, y)) ∙ inv
 
-    pub walk-next : t ≡ false → (sparse′ : Bool) (last′ : Bodies) → sparse′ ≡ marks signature sparse → last′ ≡ latestOf signature start stop last
-        → walkFrom sparse′ last′ (runAt s (next .at .0) (next .end .0)) ≡ r
+    pub all-next : t ≡ false → (sparse′ : Bool) (last′ : Bodies) → sparse′ ≡ marks signature sparse → last′ ≡ latestOf signature start stop last
+        → allFrom sparse′ last′ (runAt s (next .at .0) (next .end .0)) ≡ r
     unfolding judged sparseIn lastWhere
-    walk-next y sparse′ last′ a b =
+    all-next y sparse′ last′ a b =
         let f : Met s (c .at .0) (c .end .0) signature start stop next = met s (c .at .0) (c .end .0) (sym e ∙ q) in
         rw (f .place, f .bound, a, b) (sym (rw (run-more s (c .at .0) (c .end .0) (sym e ∙ q), ← o, y)) ∙ inv)
 
@@ -167,7 +167,7 @@ module _ (wanted signature : ℕ) (start stop : FileAt) (last : Body) where
 pub latest-bodies : (signature : ℕ) (start stop : FileAt) (last : Bodies) (tree : Body) → tree ≡ latest TREE signature start stop (last .tree) → record { tree = tree } ≡ latestOf signature start stop last
 latest-bodies signature start stop last tree e = λ i. record { tree = e i }
 
-pub ruleset walks = (latest-bodies, step-less, walk-done, walk-broken, walk-forbidden, walk-next, mandatory-under, mandatory-over, mandatory-is, forbidden-sdir, forbidden-other, forbidden-not, marks-sdir, marks-other, latest-this, latest-before)
+pub ruleset walks = (latest-bodies, step-less, all-done, all-broken, all-forbidden, all-next, mandatory-under, mandatory-over, mandatory-is, forbidden-sdir, forbidden-other, forbidden-not, marks-sdir, marks-other, latest-this, latest-before)
 
 -- ---- IEOT
 

@@ -13,8 +13,8 @@ use Rattle.extension.specs.Iter.{Found, Ending, filled, stray, Run, runA
 use Rattle.extension.specs.declared.iter.Body.{Body}
 use Rattle.extension.specs.declared.iter.Body.the-variants.{Lies, Missing}
 use Rattle.extension.specs.declared.decode.Bodies.{Bodies}
-use Rattle.extension.specs.declared.decode.Walked.{Walked}
-use Rattle.extension.specs.declared.decode.Walked.the-variants.{Filled, NotFilled, Mandatory}
+use Rattle.extension.specs.declared.decode.Space.{Space}
+use Rattle.extension.specs.declared.decode.Space.the-variants.{Filled, NotFilled, Mandatory}
 
 -- an extension is mandatory when its signature's first byte lies in 97 to 122
 abbrev pub mandatory : ℕ → Bool
@@ -51,26 +51,26 @@ sparseIn sparse [] = sparse
 sparseIn sparse (f ∷ fs) = sparseIn (marks (f .signature) sparse) fs
 
 -- the first fault in file order; where there is none, what is given
-unfoldable pub judged : List Found → Ending → Walked → Walked
+unfoldable pub judged : List Found → Ending → Space → Space
 judged [] filled good = good
 judged [] (stray place) good = NotFilled (fileAt place)
 judged (f ∷ fs) ending good = pick (isForbidden f) (Mandatory (f .signature)) (judged fs ending good)
 
 -- what a run comes to, after a mark and bodies that were met before it
-abbrev pub walkFrom : Bool → Bodies → Run → Walked
-walkFrom sparse last r = judged (r .items) (r .ending) (Filled (sparseIn sparse (r .items)) (bodiesIn last (r .items)))
+abbrev pub allFrom : Bool → Bodies → Run → Space
+allFrom sparse last r = judged (r .items) (r .ending) (Filled (sparseIn sparse (r .items)) (bodiesIn last (r .items)))
 
 -- the space from `from` up to `end`: the first fault, or the mark and the bodies that the reader goes into
-unfoldable pub walkAt : List ℕ → ℕ → ℕ → Walked
-walkAt s from end = walkFrom false noBodies (runAt s from end)
+unfoldable pub allAt : List ℕ → ℕ → ℕ → Space
+allAt s from end = allFrom false noBodies (runAt s from end)
 
 -- 01's number of an answer, 0 where nothing is refused, and what a refusal carries
-abbrev pub numberOf : Walked → ℕ
+abbrev pub numberOf : Space → ℕ
 numberOf (Filled sparse bodies) = 0
 numberOf (NotFilled place) = refusal.not-filled
 numberOf (Mandatory signature) = refusal.mandatory
 
-abbrev pub carriedOf : Walked → List ℕ
+abbrev pub carriedOf : Space → List ℕ
 carriedOf (Filled sparse bodies) = []
 carriedOf (NotFilled place) = place .0 ∷ []
 carriedOf (Mandatory signature) = signature ∷ []

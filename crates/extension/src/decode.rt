@@ -1,6 +1,6 @@
 // All extensions of a file: they fill the space behind the entries exactly, and none is there that must be understood and is not.
 ghost use mathlib.Core.Path.{_≡_};
-ghost use Rattle.extension.specs.Decode.{mandatory, forbidden, marks, latest, latestOf, walkAt};
+ghost use Rattle.extension.specs.Decode.{mandatory, forbidden, marks, latest, latestOf, allAt};
 use crate::FIRST_BYTE;
 use crate::SDIR;
 use crate::TREE;
@@ -16,7 +16,7 @@ pub struct Bodies {
 
 // What the space behind the entries comes to: whether the index is marked sparse, and the bodies that the reader goes into; or the place where no extension stands
 // although the space is not used up; or the signature of an extension that must be understood and is not.
-pub enum Walked {
+pub enum Space {
     Filled { sparse: bool, bodies: Bodies },
     NotFilled(FileAt),
     Mandatory(u32),
@@ -76,8 +76,8 @@ fn latest(signature: u32, start: FileAt, stop: FileAt, last: Bodies) -> Bodies
 }
 
 // Walks the space from `from` up to `end`.
-pub fn walk(file: &[u8], from: FileAt, end: FileAt) -> Walked
-    ensures { λ r. ⌜ r ≡ walkAt (now (file .entry)) (from .0) (end .0) ⌝ }
+pub fn all(file: &[u8], from: FileAt, end: FileAt) -> Space
+    ensures { λ r. ⌜ r ≡ allAt (now (file .entry)) (from .0) (end .0) ⌝ }
 {
     let mut here = Cursor { at: from, end };
     let mut sparse = false;
@@ -87,10 +87,10 @@ pub fn walk(file: &[u8], from: FileAt, end: FileAt) -> Walked
     loop {
         let s = here.step(file);
         match s {
-            Step::Done => return Walked::Filled { sparse, bodies },
+            Step::Done => return Space::Filled { sparse, bodies },
             Step::Broken => {
                 let place = here.at;
-                return Walked::NotFilled(place);
+                return Space::NotFilled(place);
             }
             Step::Extension {
                 signature,
@@ -99,7 +99,7 @@ pub fn walk(file: &[u8], from: FileAt, end: FileAt) -> Walked
                 next,
             } => {
                 if is_forbidden(signature, start, stop) {
-                    return Walked::Mandatory(signature);
+                    return Space::Mandatory(signature);
                 }
                 sparse = mark(signature, sparse);
                 bodies = latest(signature, start, stop, bodies);

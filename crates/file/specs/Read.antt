@@ -15,11 +15,11 @@ use Rattle.decode.specs.Entries as entries
 use Rattle.decode.specs.declared.entries.Before.{Before}
 use Rattle.decode.specs.declared.entries.Answer.{Answer as Ran}
 use Rattle.decode.specs.declared.entries.Answer.the-variants as ran
-use Rattle.extension.specs.Decode.{walkAt}
+use Rattle.extension.specs.Decode.{allAt}
 use Rattle.extension.specs.declared.iter.Body.{Body}
 use Rattle.extension.specs.declared.iter.Body.the-variants.{Lies, Missing}
-use Rattle.extension.specs.declared.decode.Walked.{Walked}
-use Rattle.extension.specs.declared.decode.Walked.the-variants as walked
+use Rattle.extension.specs.declared.decode.Space.{Space}
+use Rattle.extension.specs.declared.decode.Space.the-variants as of-space
 use Rattle.tree.specs.Tree.{readTree}
 use Rattle.tree.specs.declared.TreeAnswer.{TreeAnswer}
 use Rattle.tree.specs.declared.TreeAnswer.the-variants as grown
@@ -61,14 +61,14 @@ onTree id limit s e ns Missing = (readWith e false 0, ns)
 onTree id limit s e ns (Lies start stop) = grownInto e (readTree id limit s (start .0) (stop .0) ns)
 
 -- the extensions, from the last entry on
-abbrev pub onWalked : ℕ → ℕ → List ℕ → Entries → List ℕ → Walked → Answer × List ℕ
-onWalked id limit s e ns (walked.Filled mark bodies) = onTree id limit s (marked e mark) ns (bodies .tree)
-onWalked id limit s e ns (walked.NotFilled place) = (answer.NotFilled (place .0), ns)
-onWalked id limit s e ns (walked.Mandatory signature) = (answer.Mandatory signature, ns)
+abbrev pub onSpace : ℕ → ℕ → List ℕ → Entries → List ℕ → Space → Answer × List ℕ
+onSpace id limit s e ns (of-space.Filled mark bodies) = onTree id limit s (marked e mark) ns (bodies .tree)
+onSpace id limit s e ns (of-space.NotFilled place) = (answer.NotFilled (place .0), ns)
+onSpace id limit s e ns (of-space.Mandatory signature) = (answer.Mandatory signature, ns)
 
 -- they fill the space from `next` to `end`
 unfoldable pub extensionsInto : ℕ → ℕ → List ℕ → ℕ → ℕ → Entries → List ℕ → Answer × List ℕ
-extensionsInto id limit s next end e ns = onWalked id limit s e ns (walkAt s next end)
+extensionsInto id limit s next end e ns = onSpace id limit s e ns (allAt s next end)
 
 abbrev pub withNodes : List ℕ → List ℕ → Answer × List ℕ → Outcome
 withNodes rs ps (a, ns) = outcome a rs ps ns

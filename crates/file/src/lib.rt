@@ -11,7 +11,7 @@ ghost use Rattle.file.specs.Read.{outcome, marked, withTree, extensionsI
 use decode::entries::Answer as Ran;
 use decode::entries::Before;
 use decode::header::Header;
-use extension::decode::Walked;
+use extension::decode::Space;
 use extension::iter::Body;
 use tree::TreeAnswer;
 use wire::FileAt;
@@ -184,11 +184,11 @@ fn with_tree(e: Entries, t: TreeAnswer) -> Answer
 fn read_extensions(file: &[u8], next: FileAt, end: FileAt, e: Entries, nodes: &mut [u8]) -> Answer
     ensures { λ r. ⌜ (r, now (nodes .exit)) ≡ extensionsInto idSize depthLimit (now (file .entry)) (next .0) (end .0) e (now (nodes .entry)) ⌝ }
 {
-    let w = extension::decode::walk(file, next, end);
+    let w = extension::decode::all(file, next, end);
     match w {
-        Walked::NotFilled(place) => Answer::NotFilled(place.0),
-        Walked::Mandatory(signature) => Answer::Mandatory(signature),
-        Walked::Filled {
+        Space::NotFilled(place) => Answer::NotFilled(place.0),
+        Space::Mandatory(signature) => Answer::Mandatory(signature),
+        Space::Filled {
             sparse: mark,
             bodies,
         } => {
