@@ -15,6 +15,7 @@ use Rattle.format.specs.Format.{depthLimit, idSize}
 use Rattle.kind.specs.Sha1.{sha1Kind}
 use Rattle.entry.specs.Flags.{extendedToMemory}
 use Rattle.entry.specs.Mode.{keepMode}
+use Rattle.entry.specs.Paths.{Paths}
 use Rattle.entry.specs.Record.{recordOf, frontOf, restOf, fieldAt, liesInside, pathAt}
 use Rattle.measure.specs.declared.Measured.{Measured}
 use Rattle.measure.specs.declared.Measured.the-variants.{Entry, Short, Fault}
@@ -53,7 +54,7 @@ pub data Asked : Type 0 where
   -- how many entries there can be in a file of so many bytes
   fileSize : ℕ → Asked
   -- whether a record table over a path store is sorted
-  order : List ℕ → List ℕ → Asked
+  order : List ℕ → Paths → Asked
 
 pub data Said : Type 0 where
   -- 01's number, 0 where the file is read; the answer and what the three stores hold

@@ -12,6 +12,7 @@ use lib.Seq.{length-take-le}
 use Rattle.format.specs.Format.{depthLimit}
 use Rattle.kind.specs.Kind.{Kind}
 use Rattle.entry.specs.Layout.{recordSize}
+use Rattle.entry.specs.Paths.{Paths, lyingIn}
 use Rattle.entry.specs.Record.{recordsIn}
 use Rattle.node.specs.Head.{minusOne}
 use Rattle.node.specs.Store.{nodeSize, nodesIn}
@@ -47,14 +48,14 @@ same-tree e = cc
 
 module _ (kind : Kind) where
   -- these stores show the index m of the file s: each record its entry, and each node its node, from the root, number 0, on; and they have that many
-  pub record ShowsIndex (s rs ps ns : List ℕ) (m : Index) : Type 0 where
+  pub record ShowsIndex (s rs : List ℕ) (ps : Paths) (ns : List ℕ) (m : Index) : Type 0 where
     pub records : length (m .entries) ≤ recordsIn rs
     pub entries : EachShown (kind .id) rs ps (m .entries)
     pub nodes : nodesOf (m .tree) ≤ nodesIn ns
     pub tree : (t : Tree) → m .tree ≡ some t → ShowsTree s ns minusOne 0 t
 
   -- and then the first records and nodes show it, as many as the index has
-  pub shown-by-the-first : {s rs ps ns : List ℕ} (m : Index) → ShowsIndex s rs ps ns m
+  pub shown-by-the-first : {s rs : List ℕ} {ps : Paths} {ns : List ℕ} (m : Index) → ShowsIndex s rs ps ns m
       → ShowsIndex s (take (length (m .entries) * recordSize) rs) ps (take (nodesOf (m .tree) * nodeSize) ns) m
   shown-by-the-first {s} {rs} {ps} {ns} m x =
       record {
@@ -65,7 +66,7 @@ module _ (kind : Kind) where
       }
 
   -- each record that shows an entry is there
-  all-there : {rs ps : List ℕ} (ms : List Meaning) → EachShown (kind .id) rs ps ms → length ms ≤ recordsIn rs
+  all-there : {rs : List ℕ} {ps : Paths} (ms : List Meaning) → EachShown (kind .id) rs ps ms → length ms ≤ recordsIn rs
   all-there [] shown = omega arith
   all-there (m ∷ ms) shown = let (o, e) = meaning-at (m ∷ ms) (length ms) (omega arith) in shown (length ms) o e .there
 
@@ -80,7 +81,7 @@ module _ (kind : Kind) where
     end = length s - kind .id
 
     module _ (o : Opened kind s) {b c : List ℕ} {ms : List Meaning} (a : AllEntries kind s rs ps ns b c ms) where
-      entries-shown : EachShown (kind .id) (filled rs (recordsBytes (kind .id) 0 ms)) (filled ps (pathsBytes ms)) ms
+      entries-shown : EachShown (kind .id) (filled rs (recordsBytes (kind .id) 0 ms)) (lyingIn (filled ps (pathsBytes ms))) ms
       entries-shown =
           let there : SpaceIn s headerLength end = record { ahead = omega (arith, o .header .long); inside = omega arith } in
           stored-entries-show (kind .id) (kind .fits) s (slices .bytes) (versionOf s) headerLength end (countOf s) there rs ps (slices .paths) (countOf s) ms c (b, a .joins, a .spelled) (a .fits)
@@ -89,7 +90,7 @@ module _ (kind : Kind) where
       records-there = all-there ms entries-shown
 
       none-there : {version : ℕ} {sparse : Bool} {l : List ℕ}
-          → ShowsIndex s (filled rs (recordsBytes (kind .id) 0 ms)) (filled ps (pathsBytes ms)) l (record { version = version; sparse = sparse; entries = ms; tree = none })
+          → ShowsIndex s (filled rs (recordsBytes (kind .id) 0 ms)) (lyingIn (filled ps (pathsBytes ms))) l (record { version = version; sparse = sparse; entries = ms; tree = none })
       none-there = record { records = records-there; entries = entries-shown; nodes = omega arith; tree = λ t e. no-tree e }
 
       tree-shown : {es : List Ext} {place : ℕ} {body : List ℕ} {t : Tree} → Extensions c es → LastSigned TREE (headerLength + length b) es place body → Node (kind .id) place body t
@@ -104,7 +105,7 @@ module _ (kind : Kind) where
 
     -- what is said where the answer is Read is spelled and shown
     spelled-and-shown : {v : ℕ} {sparse tree : Bool} {r p n : ℕ} {rs₁ ps₁ ns₁ : List ℕ} → SaysFile kind s rs ps ns (outcome (answer.Read v sparse tree r p n) rs₁ ps₁ ns₁)
-        → (m : Index) × File (kind .id) s m × ShowsIndex s rs₁ ps₁ ns₁ m
+        → (m : Index) × File (kind .id) s m × ShowsIndex s rs₁ (lyingIn ps₁) ns₁ m
     spelled-and-shown (says-no-TREE o a y t f) =
         (_, space-spelled (o .header) (spells (a .joins) (a .spelled) y t (absent f)), none-there o a)
     spelled-and-shown (says-tree o {t = t} w x h k) = (
@@ -125,8 +126,8 @@ module _ (kind : Kind) where
 
     -- ---- THE THEOREM
     pub accepted-is-shown : IsRead (reading .answer)
-        → (m : Index) × File (kind .id) s m × ((o : Index) → File (kind .id) s o → o ≡ m) × Renders kind s rs ps ns m reading × ShowsIndex s (reading .records) (reading .paths) (reading .nodes) m
+        → (m : Index) × File (kind .id) s m × ((o : Index) → File (kind .id) s o → o ≡ m) × Renders kind s rs ps ns m reading × ShowsIndex s (reading .records) (lyingIn (reading .paths)) (reading .nodes) m
     accepted-is-shown (v, a, t, r, p, n, q) =
         let (m, x, y, one) = accepted-is-the-one-meaning kind s rs ps ns slices (v, a, t, r, p, n, q) in
         let (o, z, shown) = spelled-and-shown (subst (SaysFile kind s rs ps ns) (λ i. outcome (q i) (reading .records) (reading .paths) (reading .nodes)) (reader.answer-says kind s rs ps ns slices)) in
-        (m, x, one, y, subst (ShowsIndex s (reading .records) (reading .paths) (reading .nodes)) (one o z) shown)
+        (m, x, one, y, subst (ShowsIndex s (reading .records) (lyingIn (reading .paths)) (reading .nodes)) (one o z) shown)

@@ -14,6 +14,7 @@ use Rattle.laws.specs.Tests.{Less, less, not-less, less?, lt-or-ge}
 use Rattle.format.specs.Format.{depthLimit}
 use Rattle.kind.specs.Kind.{Kind}
 use Rattle.entry.specs.Flags.{bit, extended, removed}
+use Rattle.entry.specs.Paths.{Paths}
 use Rattle.entry.specs.Record.{recordsIn, flagsAt, liesInside}
 use Rattle.access.specs.Sorted.{Lies, lies-yes, yes-lies}
 use Rattle.proper.specs.Proper.{isProper}
@@ -35,11 +36,11 @@ pub record Stays (rs : List ℕ) (i : ℕ) : Type 0 where
   pub unmarked : bit removed (flagsAt rs i) ≡ false
 
 -- the paths of all records that are written lie in the path store
-abbrev pub PathsInside : List ℕ → List ℕ → Type 0
+abbrev pub PathsInside : List ℕ → Paths → Type 0
 PathsInside rs ps = (i : ℕ) → Stays rs i → Lies rs ps i
 
 -- "first record not REMOVE with 12"
-pub record FirstOutside (rs ps : List ℕ) (i : ℕ) : Type 0 where
+pub record FirstOutside (rs : List ℕ) (ps : Paths) (i : ℕ) : Type 0 where
   pub stays : Stays rs i
   pub outside : ¬ Lies rs ps i
   pub first : (j : ℕ) → j < i → Stays rs j → Lies rs ps j
@@ -62,22 +63,22 @@ IsDone a = (version size : ℕ) × (a ≡ Done version size)
 
 module _ (kind : Kind) where
   -- "over 2^32 - 1 records, or bytes before EOIE's place"
-  abbrev pub OverTheLimits : List ℕ → List ℕ → List ℕ → List ℕ → Options → Type 0
+  abbrev pub OverTheLimits : List ℕ → Paths → List ℕ → List ℕ → Options → Type 0
   OverTheLimits rs ps ns nm o = (largest < recordsIn rs) ⊎ (largest < sizeBeforeEoie (kind .id) rs ps ns nm o)
 
-  pub record WithinLimits (rs ps ns nm : List ℕ) (o : Options) : Type 0 where
+  pub record WithinLimits (rs : List ℕ) (ps : Paths) (ns nm : List ℕ) (o : Options) : Type 0 where
     pub records : recordsIn rs ≤ largest
     pub bytes : sizeBeforeEoie (kind .id) rs ps ns nm o ≤ largest
 
   -- what may be written, given room
-  pub record MayBeWritten (rs ps ns nm : List ℕ) (o : Options) : Type 0 where
+  pub record MayBeWritten (rs : List ℕ) (ps : Paths) (ns nm : List ℕ) (o : Options) : Type 0 where
     pub inside : PathsInside rs ps
     pub proper : ProperIfAsked ns nm o
     pub limits : WithinLimits rs ps ns nm o
 
   -- ---- what is said of each answer
 
-  pub data Says (rs ps ns nm : List ℕ) (o : Options) (out : List ℕ) : Answer → Type 0 where
+  pub data Says (rs : List ℕ) (ps : Paths) (ns nm : List ℕ) (o : Options) (out : List ℕ) : Answer → Type 0 where
     says-outside : {i : ℕ} → FirstOutside rs ps i → Says rs ps ns nm o out (PathOutside i)
     says-not-proper : PathsInside rs ps → treeAsked o ≡ true → ¬ ProperTable depthLimit ns nm → Says rs ps ns nm o out NotProper
     says-too-large : PathsInside rs ps → ProperIfAsked ns nm o → OverTheLimits rs ps ns nm o → Says rs ps ns nm o out TooLarge
@@ -88,16 +89,16 @@ module _ (kind : Kind) where
   -- ---- the first record outside
 
   -- what the search for it finds
-  data FirstIs (rs ps : List ℕ) (k from : ℕ) : First → Type 0 where
+  data FirstIs (rs : List ℕ) (ps : Paths) (k from : ℕ) : First → Type 0 where
     is-found : {i : ℕ} → FirstOutside rs ps i → FirstIs rs ps k from (found i)
     is-nowhere : ((i : ℕ) → from ≤ i → i < from + k → Stays rs i → Lies rs ps i) → FirstIs rs ps k from nowhere
 
   -- record i is written and has a path outside, or lies inside if it is written
-  data FaultIs (rs ps : List ℕ) (i : ℕ) : Bool → Type 0 where
+  data FaultIs (rs : List ℕ) (ps : Paths) (i : ℕ) : Bool → Type 0 where
     faulty : Stays rs i → ¬ Lies rs ps i → FaultIs rs ps i true
     faultless : (Stays rs i → Lies rs ps i) → FaultIs rs ps i false
 
-  module _ (rs ps : List ℕ) where
+  module _ (rs : List ℕ) (ps : Paths) where
     fault-is : (i : ℕ) → i < recordsIn rs → (b : List ℕ) → FaultIs rs ps i (faultOf rs ps b i)
     unfolding faultOf
     fault-is i h b = by (bit removed (flagsAt rs i)) refl (liesInside rs ps i) refl
@@ -186,7 +187,7 @@ module _ (kind : Kind) where
 
   -- ---- the answer
 
-  module _ (rs ps ns nm : List ℕ) (o : Options) (out : List ℕ) where
+  module _ (rs : List ℕ) (ps : Paths) (ns nm : List ℕ) (o : Options) (out : List ℕ) where
     abbrev writing : Outcome
     writing = writeAll kind depthLimit rs ps ns nm o out
 

@@ -16,6 +16,7 @@ use Rattle.laws.specs.Tests.{Less, less, not-less, less?}
 use Rattle.format.specs.Format.{depthLimit}
 use Rattle.wire.specs.BigEndian.{bytesOf}
 use Rattle.kind.specs.Kind.{Kind}
+use Rattle.entry.specs.Paths.{Paths}
 use Rattle.entry.specs.Record.{recordsIn, flagsAt, pathAt}
 use Rattle.grammar.specs.Entry.{Meaning, Flags, fullField, start, Entries}
 use Rattle.grammar.specs.Extension.{Ext, ext, extensionHeader, sdir, TREE, Extensions}
@@ -42,7 +43,7 @@ module _ (kind : Kind) where
   -- ---- THE WORDS
 
   -- the entries of these records, in what the grammar leaves open: "Padding is NUL. Paths of 4095 bytes or more store 4095", and shorter ones their length
-  pub data PlainEntries (rs ps : List ℕ) : List ℕ → List ℕ → Type 0 where
+  pub data PlainEntries (rs : List ℕ) (ps : Paths) : List ℕ → List ℕ → Type 0 where
     no-entry : PlainEntries rs ps [] []
     plain-entry : {i : ℕ} {is flags rest : List ℕ} (fields : List ℕ) → length fields ≡ 10 * 4 + kind .id
         → Flags flags (writtenFlags (flagsAt rs i)) (min (length (pathAt rs ps i)) fullField)
@@ -75,7 +76,7 @@ module _ (kind : Kind) where
     hashed : o .unhashed ≡ false → TrailerPart o before (kind .hash before)
 
   -- the file s, of this version, as it was asked for
-  pub record AsAsked (rs ps : List ℕ) (o : Options) (version : ℕ) (s : List ℕ) : Type 0 where
+  pub record AsAsked (rs : List ℕ) (ps : Paths) (o : Options) (version : ℕ) (s : List ℕ) : Type 0 where
     -- its bytes
     pub header : List ℕ
     pub entries : List ℕ
@@ -100,11 +101,11 @@ module _ (kind : Kind) where
     pub trailer-part : TrailerPart o (header ++ (entries ++ extensions)) trailer
 
   -- "one entry of kept mode octal 040000, or `sdir`, makes the index sparse"
-  abbrev pub MakesSparse : List ℕ → List ℕ → Options → Type 0
+  abbrev pub MakesSparse : List ℕ → Paths → Options → Type 0
   MakesSparse rs ps o = (o .sparse ≡ true) ⊎ Some (λ (m : Meaning). m .stat .mode ≡ directoryMode) (meaningsOf (kind .id) rs ps)
 
   -- the index that such a file means
-  pub record Means (rs ps : List ℕ) (o : Options) (version : ℕ) (m : Index) : Type 0 where
+  pub record Means (rs : List ℕ) (ps : Paths) (o : Options) (version : ℕ) (m : Index) : Type 0 where
     pub version-is : m .version ≡ version
     pub entries-are : m .entries ≡ meaningsOf (kind .id) rs ps
     pub sparse-tells : Tells (MakesSparse rs ps o) (m .sparse)
@@ -129,7 +130,7 @@ module _ (kind : Kind) where
       by (less h) = omega arith
       by (not-less h) = omega arith
 
-  plain-one : (rs ps : List ℕ) (i : ℕ) (is rest : List ℕ) → i < recordsIn rs → PlainEntries rs ps is rest
+  plain-one : (rs : List ℕ) (ps : Paths) (i : ℕ) (is rest : List ℕ) → i < recordsIn rs → PlainEntries rs ps is rest
       → PlainEntries rs ps (i ∷ is) (entryOf (kind .id) rs i (pathAt rs ps i) ++ rest)
   unfolding entryOf
   plain-one rs ps i is rest h x =
@@ -147,7 +148,7 @@ module _ (kind : Kind) where
       let flags : Flags g (writtenFlags (flagsAt rs i)) (min (length p) fullField) = subst (Flags g (writtenFlags (flagsAt rs i))) (stated-is (length p)) (flags-spelled (flagsAt rs i) (length p)) in
       subst (PlainEntries rs ps (i ∷ is)) (sym e) (plain-entry f (length-front (kind .id) rs i (kind .fits) h) flags x)
 
-  plain-table : (rs ps : List ℕ) (k i : ℕ) → i + k ≤ recordsIn rs → PlainEntries rs ps (keptFrom rs k i) (entriesBytes (kind .id) rs ps k i)
+  plain-table : (rs : List ℕ) (ps : Paths) (k i : ℕ) → i + k ≤ recordsIn rs → PlainEntries rs ps (keptFrom rs k i) (entriesBytes (kind .id) rs ps k i)
   unfolding keptFrom entriesBytes recordBytes
   plain-table rs ps zero i h = no-entry
   plain-table rs ps (suc k) i h = by (isGone rs i) (plain-table rs ps k (i + 1) (omega arith))
@@ -204,7 +205,7 @@ module _ (kind : Kind) where
 
   -- ---- THE THEOREMS
 
-  module _ (rs ps ns nm : List ℕ) (o : Options) (out : List ℕ) (version size : ℕ) (done : writeAll kind depthLimit rs ps ns nm o out .answer ≡ Done version size) where
+  module _ (rs : List ℕ) (ps : Paths) (ns nm : List ℕ) (o : Options) (out : List ℕ) (version size : ℕ) (done : writeAll kind depthLimit rs ps ns nm o out .answer ≡ Done version size) where
     tree-is : length ns < 2 ^ 64 → TreePart o (treePlace kind rs ps) (pick (writesTree o) (ext TREE (treeBody kind ns nm) ∷ []) [])
     tree-is few = by (writesTree o) refl
       where

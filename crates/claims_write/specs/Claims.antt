@@ -13,6 +13,7 @@ use Rattle.laws.specs.Tests.{Same, same, differs, same?}
 use Rattle.format.specs.Format.{depthLimit}
 use Rattle.kind.specs.Kind.{Kind}
 use Rattle.entry.specs.Flags.{stageRaw, keepFlags, toStorage}
+use Rattle.entry.specs.Paths.{Paths, lyingIn}
 use Rattle.entry.specs.Record.{recordsIn, flagsAt}
 use Rattle.node.specs.Store.{nodesIn}
 use Rattle.grammar.specs.Tree.{Tree}
@@ -48,12 +49,12 @@ stage-kept : (flags : ℕ) → stageRaw (keepFlags flags) ≡ stageRaw flags
 stage-kept flags = omega arith
 
 -- the premise on paths is a part of what a table that loses nothing is
-pub writable-ends : (rs ps : List ℕ) → WritableTable rs ps → PathsEnd rs ps
+pub writable-ends : (rs : List ℕ) (ps : Paths) → WritableTable rs ps → PathsEnd rs ps
 writable-ends rs ps fit i h stays = fit i h stays .path
 
 module _ (kind : Kind) where
   -- a record that shows the meaning of a record that loses nothing shows the record
-  same-entry : (rs ps : List ℕ) (i : ℕ) (rs′ ps′ : List ℕ) (j : ℕ) → Writable rs ps i → Shows (kind .id) rs′ ps′ j (meaningOf (kind .id) rs ps i) → SameEntry (kind .id) rs ps i rs′ ps′ j
+  same-entry : (rs : List ℕ) (ps : Paths) (i : ℕ) (rs′ : List ℕ) (ps′ : Paths) (j : ℕ) → Writable rs ps i → Shows (kind .id) rs′ ps′ j (meaningOf (kind .id) rs ps i) → SameEntry (kind .id) rs ps i rs′ ps′ j
   unfolding statOf
   same-entry rs ps i rs′ ps′ j fit x =
       let f = written-are-kept (flagsAt rs i) (fit .marks) in
@@ -71,14 +72,14 @@ module _ (kind : Kind) where
   -- ---- PREMISES: the stores lent to the reader are large enough
 
   -- for the records and the path bytes of all that is written, and where TREE is written for as many nodes as the node table has
-  pub record Roomy (rs ps ns : List ℕ) (o : Options) (records′ paths′ nodes′ : List ℕ) : Type 0 where
+  pub record Roomy (rs : List ℕ) (ps : Paths) (ns : List ℕ) (o : Options) (records′ paths′ nodes′ : List ℕ) : Type 0 where
     pub records : length (keptOf rs) * 96 ≤ length records′
     pub paths : length (pathsBytes (meaningsOf (kind .id) rs ps)) ≤ length paths′
     pub nodes : writesTree o ≡ true → nodesIn ns ≤ nodesIn nodes′
 
   -- ---- THE THEOREMS
 
-  module _ (rs ps ns nm : List ℕ) (o : Options) (out : List ℕ) (version size : ℕ) (done : writeAll kind depthLimit rs ps ns nm o out .answer ≡ Done version size) (few : length ns < 2 ^ 64) (ends : PathsEnd rs ps)
+  module _ (rs : List ℕ) (ps : Paths) (ns nm : List ℕ) (o : Options) (out : List ℕ) (version size : ℕ) (done : writeAll kind depthLimit rs ps ns nm o out .answer ≡ Done version size) (few : length ns < 2 ^ 64) (ends : PathsEnd rs ps)
       (records′ paths′ nodes′ : List ℕ) where
     -- the written file, and what the reader makes of it
     abbrev pub bytes : List ℕ
@@ -133,21 +134,21 @@ module _ (kind : Kind) where
           written-renders .answer ∙ (λ j. Read (sym v j) (index .sparse) (tree-told j) (c j) (length (pathsBytes (meaningsOf (kind .id) rs ps))) (nodes-told j))
 
       -- record j shows the meaning of the j-th record that was written
-      pub shows-written : (j i : ℕ) → getElem? (keptOf rs) j ≡ some i → Shows (kind .id) (reading .records) (reading .paths) j (meaningOf (kind .id) rs ps i)
+      pub shows-written : (j i : ℕ) → getElem? (keptOf rs) j ≡ some i → Shows (kind .id) (reading .records) (lyingIn (reading .paths)) j (meaningOf (kind .id) rs ps i)
       shows-written j i e =
           let d = done-says kind rs ps ns nm o out version size done in
           let x = shown-w kind rs ps ns nm o (d .few) (d .short) ends records′ paths′ nodes′ slices-w room tree-room j (meaningOf (kind .id) rs ps i) (at-map (meaningOf (kind .id) rs ps) (keptOf rs) j i e) in
-          subst (λ (p : List ℕ). Shows (kind .id) (reading .records) p j (meaningOf (kind .id) rs ps i)) (sym (written-renders .paths))
-          (subst (λ (r : List ℕ). Shows (kind .id) r (filled paths′ (pathsBytes (meaningsOf (kind .id) rs ps))) j (meaningOf (kind .id) rs ps i)) (sym (written-renders .records)) x)
+          subst (λ (p : List ℕ). Shows (kind .id) (reading .records) (lyingIn p) j (meaningOf (kind .id) rs ps i)) (sym (written-renders .paths))
+          (subst (λ (r : List ℕ). Shows (kind .id) r (lyingIn (filled paths′ (pathsBytes (meaningsOf (kind .id) rs ps)))) j (meaningOf (kind .id) rs ps i)) (sym (written-renders .records)) x)
 
       -- DEMAND 2, with records marked REMOVE: what reads back is the table without them
-      pub written-reads-back : WritableTable rs ps → (j i : ℕ) → getElem? (keptOf rs) j ≡ some i → SameEntry (kind .id) rs ps i (reading .records) (reading .paths) j
+      pub written-reads-back : WritableTable rs ps → (j i : ℕ) → getElem? (keptOf rs) j ≡ some i → SameEntry (kind .id) rs ps i (reading .records) (lyingIn (reading .paths)) j
       written-reads-back fit j i e =
           let k = kept-is rs (recordsIn rs) 0 j i e in
-          same-entry rs ps i (reading .records) (reading .paths) j (fit i (omega (arith, k .most)) (k .stays)) (shows-written j i e)
+          same-entry rs ps i (reading .records) (lyingIn (reading .paths)) j (fit i (omega (arith, k .most)) (k .stays)) (shows-written j i e)
 
       -- and with none marked record i is the table's record i
-      pub table-reads-back : WritableTable rs ps → NoneRemoved rs → (i : ℕ) → i < recordsIn rs → SameEntry (kind .id) rs ps i (reading .records) (reading .paths) i
+      pub table-reads-back : WritableTable rs ps → NoneRemoved rs → (i : ℕ) → i < recordsIn rs → SameEntry (kind .id) rs ps i (reading .records) (lyingIn (reading .paths)) i
       table-reads-back fit stays i h =
           let e : 0 + i ≡ i = omega arith in
           written-reads-back fit i i (subst (λ (m : ℕ). getElem? (keptOf rs) i ≡ some m) e (kept-here rs (recordsIn rs) 0 (λ m a b. stays m (omega arith)) i h))

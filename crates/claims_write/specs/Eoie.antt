@@ -11,6 +11,7 @@ use Rattle.laws.specs.Pick.{pick}
 use Rattle.wire.specs.BigEndian.{beAt, bytesOf, length-bytes, be-left, be-right, be-bytes}
 use Rattle.wire.specs.Places.{fileAt}
 use Rattle.format.specs.Format.{depthLimit}
+use Rattle.entry.specs.Paths.{Paths}
 use Rattle.entry.specs.Record.{recordsIn}
 use Rattle.extension.specs.Signatures as reader
 use Rattle.extension.specs.Iter.{Found, filled}
@@ -227,7 +228,7 @@ module _ (kind : Kind) where
 
   -- ---- THE THEOREM
 
-  module _ (rs ps ns nm : List ℕ) (o : Options) where
+  module _ (rs : List ℕ) (ps : Paths) (ns nm : List ℕ) (o : Options) where
     abbrev before-extensions : List ℕ
     before-extensions = headerOf (versionOf rs) (count kind rs ps ns nm o) ++ tableBytes (kind .id) rs ps
 
@@ -262,7 +263,7 @@ module _ (kind : Kind) where
           ap (λ (s : List ℕ). offsetIn kind s) (with-eoie e) ∙ tells-told kind (before-extensions ++ (extensionsOf here ++ (eoieOf (offsetOf (kind .id) rs ps) (contents here) ++ last))) (offsetOf (kind .id) rs ps) t
 
   -- where the writer answers Done and EOIE is written, the EOIE reader finds it and tells where the extensions start
-  pub eoie-is-found : (rs ps ns nm : List ℕ) (o : Options) (out : List ℕ) (version size : ℕ) (done : writeAll kind depthLimit rs ps ns nm o out .answer ≡ Done version size) → hasEoie (recordsIn rs) o ≡ true
+  pub eoie-is-found : (rs : List ℕ) (ps : Paths) (ns nm : List ℕ) (o : Options) (out : List ℕ) (version size : ℕ) (done : writeAll kind depthLimit rs ps ns nm o out .answer ≡ Done version size) → hasEoie (recordsIn rs) o ≡ true
       → offsetIn kind (fileIn kind rs ps ns nm o out version size done) ≡ Offset (fileAt (offsetOf (kind .id) rs ps))
   eoie-is-found rs ps ns nm o out version size done e =
       let d = done-says kind rs ps ns nm o out version size done in

@@ -12,6 +12,7 @@ use Rattle.wire.specs.BigEndian.{beAt, bytesOf}
 use Rattle.wire.specs.Written.{digitsBy, digitsOf}
 use Rattle.kind.specs.Sha1.{sha1Kind}
 use Rattle.format.specs.Format.{depthLimit, idSize}
+use Rattle.entry.specs.Paths.{Paths, lyingIn}
 use Rattle.entry.specs.Record.{fieldAt, liesInside, pathAt}
 use Rattle.node.specs.Store.{wordAt, idAt, isPart, partOf, nameInside, nameAt}
 use Rattle.siblings.specs.Siblings.{anyIn, twin, repeats, siblingsDiffer}
@@ -37,8 +38,8 @@ records =
     (replicate 24 0 ++ (0 ∷ 0 ∷ 129 ∷ 164 ∷ []) ++ replicate 12 0 ++ replicate 20 7 ++ replicate 31 0 ++ (1 ∷ 0 ∷ 0 ∷ 0 ∷ 0 ∷ []))
     ++ (replicate 72 0 ++ (0 ∷ 2 ∷ 0 ∷ 0 ∷ []) ++ replicate 20 0)
 
-abbrev paths : List ℕ
-paths = 97 ∷ []
+abbrev paths : Paths
+paths = lyingIn (97 ∷ [])
 
 -- a root that covers one entry
 abbrev nodes : List ℕ
@@ -81,6 +82,6 @@ unfolding writing allBytes
 slices = record { bytes = bytes-if file refl; file = lit< tt; paths = lit< tt; nodes = lit< tt }
 
 -- so the claims speak of it: record 0 reads back
-pub reads-back : SameEntry idSize records paths 0 (outcome .records) (outcome .paths) 0
+pub reads-back : SameEntry idSize records paths 0 (outcome .records) (lyingIn (outcome .paths)) 0
 unfolding beAt fieldAt keptFrom
 reads-back = written-reads-back sha1Kind records paths nodes [] options (replicate 140 9) 2 137 is-written (lit< tt) (writable-ends records paths writable) (replicate 96 9) (9 ∷ []) (replicate 72 9) slices roomy writable 0 0 refl

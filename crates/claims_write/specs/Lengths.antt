@@ -15,6 +15,7 @@ use Rattle.format.specs.Format.{depthLimit, idRoom}
 use Rattle.wire.specs.Written.{digitsBy, digitsOf}
 use Rattle.kind.specs.Kind.{Kind}
 use Rattle.entry.specs.Flags.{bit, extended, removed}
+use Rattle.entry.specs.Paths.{Paths}
 use Rattle.entry.specs.Record.{recordsIn, flagsAt, pathAt}
 use Rattle.node.specs.Head.{minusOne}
 use Rattle.node.specs.Store.{nodesIn, countAt, subtreesAt, idAt, nameAt}
@@ -41,7 +42,7 @@ fixed-is id flags = by (bit extended flags)
     by true = omega arith
     by false = omega arith
 
-module _ (id : ℕ) (rs ps : List ℕ) (small : id ≤ 32) where
+module _ (id : ℕ) (rs : List ℕ) (ps : Paths) (small : id ≤ 32) where
   record-length : (i : ℕ) → i < recordsIn rs → length (recordBytes id rs ps (beforeAt rs ps i) i) ≡ writtenSize id rs ps i
   unfolding recordBytes
   record-length i h = by (bit removed (flagsAt rs i))
@@ -56,10 +57,10 @@ module _ (id : ℕ) (rs ps : List ℕ) (small : id ≤ 32) where
   entries-length (suc k) i h =
       omega (arith, length-append (recordBytes id rs ps (beforeAt rs ps i) i) (entriesBytes id rs ps k (i + 1)), record-length i (omega arith), entries-length k (i + 1) (omega arith))
 
-pub table-length : (id : ℕ) (rs ps : List ℕ) → id ≤ 32 → length (tableBytes id rs ps) ≡ entriesSize id rs ps
+pub table-length : (id : ℕ) (rs : List ℕ) (ps : Paths) → id ≤ 32 → length (tableBytes id rs ps) ≡ entriesSize id rs ps
 table-length id rs ps small = entries-length id rs ps small (recordsIn rs) 0 (omega arith)
 
-pub offset-is : (id : ℕ) → id ≤ idRoom → (rs ps : List ℕ) → offsetOf id rs ps ≡ extensionsPlace id rs ps
+pub offset-is : (id : ℕ) → id ≤ idRoom → (rs : List ℕ) (ps : Paths) → offsetOf id rs ps ≡ extensionsPlace id rs ps
 offset-is id small rs ps = omega (arith, table-length id rs ps small)
 
 -- ---- a node's head
@@ -226,7 +227,7 @@ module _ (kind : Kind) where
   unfolding eoiePart
   no-eoie offset toc = refl
 
-  module _ (rs ps ns nm : List ℕ) (o : Options) (proper : treeAsked o ≡ true → Proper depthLimit ns nm) where
+  module _ (rs : List ℕ) (ps : Paths) (ns nm : List ℕ) (o : Options) (proper : treeAsked o ≡ true → Proper depthLimit ns nm) where
     extensions-part : length (extensionsOf (extensionsAsked (kind .id) depthLimit ns nm o)) ≡ extensionSize (treeAsked o) (treeSize (kind .id) ns nm) + extensionSize (o .sparse) 0
     unfolding headSize
     extensions-part = length-extensions (signed-for (writesTree o) (treeBytes (kind .id) depthLimit ns nm) (o .sparse)) ∙ size-for (writesTree o) (treeBytes (kind .id) depthLimit ns nm) (o .sparse) ∙ rw (writes-tree-is o) (by (treeAsked o) (o .sparse) proper)

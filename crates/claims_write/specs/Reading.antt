@@ -13,6 +13,7 @@ use Rattle.laws.specs.Times.{Times, done, more}
 use Rattle.format.specs.Format.{depthLimit}
 use Rattle.kind.specs.Kind.{Kind}
 use Rattle.kind.specs.Trailer.{trailer}
+use Rattle.entry.specs.Paths.{Paths, lyingIn}
 use Rattle.entry.specs.Record.{recordsIn}
 use Rattle.grammar.specs.Entry.{Meaning, start, Entries}
 use Rattle.grammar.specs.Extension.{Ext, TREE, Extensions, LastSigned}
@@ -84,7 +85,7 @@ module _ (kind : Kind) where
 
   -- ---- the written file, as the reader's claims want it
 
-  module _ (rs ps ns nm : List ℕ) (o : Options) where
+  module _ (rs : List ℕ) (ps : Paths) (ns nm : List ℕ) (o : Options) where
     abbrev w : List ℕ
     w = written kind rs ps ns nm o
 
@@ -163,5 +164,5 @@ module _ (kind : Kind) where
             let b : Bytes (h ++ (tableBytes (kind .id) rs ps ++ rest)) = subst Bytes (written-parts kind rs ps ns nm o) (slices .bytes) in
             bytes-left (tableBytes (kind .id) rs ps) rest (bytes-right h (tableBytes (kind .id) rs ps ++ rest) b)
 
-        pub shown-w : EachShown (kind .id) (filled records′ (recordsBytes (kind .id) 0 ms)) (filled paths′ (pathsBytes ms)) ms
+        pub shown-w : EachShown (kind .id) (filled records′ (recordsBytes (kind .id) 0 ms)) (lyingIn (filled paths′ (pathsBytes ms))) ms
         shown-w = rendered-fields (kind .id) (kind .fits) records′ paths′ ms (spelled-each-fits entries-w bytes-w) (omega (arith, room .paths, slices .paths))

@@ -13,6 +13,7 @@ use Rattle.laws.specs.Pick.{pick}
 use Rattle.laws.specs.Tests.{Less, less, not-less, less?}
 use Rattle.wire.specs.BigEndian.{bytesOf}
 use Rattle.format.specs.Format.{depthLimit}
+use Rattle.entry.specs.Paths.{Paths}
 use Rattle.entry.specs.Record.{recordsIn}
 use Rattle.grammar.specs.Entry.{start, Entries}
 use Rattle.grammar.specs.Extension.{Ext, Extensions}
@@ -41,15 +42,15 @@ module _ (kind : Kind) where
   treeBody ns nm = treeBytes (kind .id) depthLimit ns nm
 
   -- where TREE's body starts: behind header, entries, signature and size
-  abbrev pub treePlace : List ℕ → List ℕ → ℕ
+  abbrev pub treePlace : List ℕ → Paths → ℕ
   treePlace rs ps = offsetOf (kind .id) rs ps + 8
 
   -- the tree that is meant: the one that TREE's body spells
-  abbrev pub treeMeant : List ℕ → List ℕ → List ℕ → List ℕ → Options → Option Tree
+  abbrev pub treeMeant : List ℕ → Paths → List ℕ → List ℕ → Options → Option Tree
   treeMeant rs ps ns nm o = pick (writesTree o) (readTree (kind .id) (treePlace rs ps) (treeBody ns nm)) none
 
   -- the index that a record table and a node table mean: sparse if so asked, or by an entry that is a directory
-  abbrev pub indexOf : List ℕ → List ℕ → List ℕ → List ℕ → Options → Index
+  abbrev pub indexOf : List ℕ → Paths → List ℕ → List ℕ → Options → Index
   indexOf rs ps ns nm o =
       record {
         version = versionOf rs;
@@ -61,10 +62,10 @@ module _ (kind : Kind) where
   -- ---- what is known where the writer answers Done
 
   -- the bytes of the file
-  abbrev pub written : List ℕ → List ℕ → List ℕ → List ℕ → Options → List ℕ
+  abbrev pub written : List ℕ → Paths → List ℕ → List ℕ → Options → List ℕ
   written rs ps ns nm o = fileBytes kind depthLimit rs ps ns nm o
 
-  pub record Done? (rs ps ns nm : List ℕ) (o : Options) (out : List ℕ) (version size : ℕ) (after : List ℕ) : Type 0 where
+  pub record Done? (rs : List ℕ) (ps : Paths) (ns nm : List ℕ) (o : Options) (out : List ℕ) (version size : ℕ) (after : List ℕ) : Type 0 where
     pub inside : firstFault rs ps (recordsIn rs) 0 ≡ nowhere
     pub proper : treeFits depthLimit ns nm (writesTree o) ≡ true
     pub few : recordsIn rs ≤ most
@@ -74,7 +75,7 @@ module _ (kind : Kind) where
     pub room : size ≤ length out
     pub after-is : after ≡ written rs ps ns nm o ++ drop (length (written rs ps ns nm o)) out
 
-  module _ (rs ps ns nm : List ℕ) (o : Options) (out : List ℕ) where
+  module _ (rs : List ℕ) (ps : Paths) (ns nm : List ℕ) (o : Options) (out : List ℕ) where
     abbrev writing : Outcome
     writing = writeAll kind depthLimit rs ps ns nm o out
 
@@ -132,7 +133,7 @@ module _ (kind : Kind) where
   unfolding headerOf
   header-spelled version count h s k = header (big 4 version h) s (big 4 count k)
 
-  module _ (rs ps ns nm : List ℕ) (o : Options) where
+  module _ (rs : List ℕ) (ps : Paths) (ns nm : List ℕ) (o : Options) where
     abbrev pub records : ℕ
     records = recordsIn rs
 
@@ -210,7 +211,7 @@ module _ (kind : Kind) where
 
   -- ---- THE THEOREM: where the writer answers Done, the first `size` bytes of what the output holds are spelled, and mean the table
 
-  module _ (rs ps ns nm : List ℕ) (o : Options) (out : List ℕ) (version size : ℕ) (done : writeAll kind depthLimit rs ps ns nm o out .answer ≡ Done version size) where
+  module _ (rs : List ℕ) (ps : Paths) (ns nm : List ℕ) (o : Options) (out : List ℕ) (version size : ℕ) (done : writeAll kind depthLimit rs ps ns nm o out .answer ≡ Done version size) where
     -- the file: the first `size` bytes of the output
     abbrev pub fileIn : List ℕ
     fileIn = take size (writeAll kind depthLimit rs ps ns nm o out .out)

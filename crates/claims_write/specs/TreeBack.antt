@@ -17,6 +17,7 @@ use Rattle.laws.specs.Tests.{tri, Same, same, differs, same?}
 use Rattle.format.specs.Format.{depthLimit, idRoom}
 use Rattle.wire.specs.BigEndian.{be-left}
 use Rattle.kind.specs.Kind.{Kind}
+use Rattle.entry.specs.Paths.{Paths}
 use Rattle.node.specs.Head.{minusOne}
 use Rattle.node.specs.Store.{nodesIn, wordAt, parentAt, idAt, partOf, nameAt}
 use Rattle.tree_write.specs.Kids.{Mem, here, there}
@@ -208,7 +209,7 @@ in-front n small ns nm s a b at some x = record {
 module _ (kind : Kind) where
   -- ---- where TREE's body stands in the file
 
-  module _ (rs ps ns nm : List ℕ) (o : Options) (asked : writesTree o ≡ true) where
+  module _ (rs : List ℕ) (ps : Paths) (ns nm : List ℕ) (o : Options) (asked : writesTree o ≡ true) where
     body-lies : Lies (written kind rs ps ns nm o) (treePlace kind rs ps) (length (written kind rs ps ns nm o)) (treeBody kind ns nm)
     unfolding treeHead
     body-lies =
@@ -238,7 +239,7 @@ module _ (kind : Kind) where
 
   -- ---- THE THEOREMS
 
-  module _ (rs ps ns nm : List ℕ) (o : Options) (out : List ℕ) (version size : ℕ)
+  module _ (rs : List ℕ) (ps : Paths) (ns nm : List ℕ) (o : Options) (out : List ℕ) (version size : ℕ)
       (done : writeAll kind depthLimit rs ps ns nm o out .answer ≡ Done version size) (few : length ns < 2 ^ 64) (ends : PathsEnd rs ps)
       (records′ paths′ nodes′ : List ℕ)
       (slices : Slices (bytes kind rs ps ns nm o out version size done few ends records′ paths′ nodes′) paths′ nodes′)

@@ -10,6 +10,7 @@ use lib.ListN.{length}
 use Rattle.laws.specs.Pick.{pick}
 use Rattle.format.specs.Format.{depthLimit}
 use Rattle.kind.specs.Kind.{Kind}
+use Rattle.entry.specs.Paths.{Paths}
 use Rattle.grammar.specs.Tree.{Tree, nodes, Node}
 use Rattle.grammar.specs.Reach.{depth-within, nodes-within}
 use Rattle.grammar.specs.DecideTree.{readTree, tree-decided}
@@ -28,10 +29,10 @@ use Rattle.claims_write.specs.Listed.{InFileOrder, Rows, same-list}
 
 module _ (kind : Kind) where
   -- the tree of a node table, in a file with this record table: its names stand behind the entries
-  abbrev pub treeWritten : List ℕ → List ℕ → List ℕ → List ℕ → Tree
+  abbrev pub treeWritten : List ℕ → Paths → List ℕ → List ℕ → Tree
   treeWritten rs ps ns nm = treeAt (kind .id) ns nm depthLimit (treePlace kind rs ps) 0
 
-  module _ (rs ps ns nm : List ℕ) (o : Options) (out : List ℕ) (version size : ℕ) (done : writeAll kind depthLimit rs ps ns nm o out .answer ≡ Done version size) (few : length ns < 2 ^ 64) (asked : writesTree o ≡ true) where
+  module _ (rs : List ℕ) (ps : Paths) (ns nm : List ℕ) (o : Options) (out : List ℕ) (version size : ℕ) (done : writeAll kind depthLimit rs ps ns nm o out .answer ≡ Done version size) (few : length ns < 2 ^ 64) (asked : writesTree o ≡ true) where
     -- a table that is written is proper
     pub proper : Proper depthLimit ns nm
     unfolding treeFits

@@ -9,6 +9,7 @@ use lib.ListN.{length}
 use Rattle.laws.specs.Pick.{pick}
 use Rattle.format.specs.Format.{depthLimit}
 use Rattle.kind.specs.Kind.{Kind}
+use Rattle.entry.specs.Paths.{Paths}
 use Rattle.entry.specs.Record.{recordsIn}
 use Rattle.node.specs.Store.{nodesIn}
 use Rattle.file.specs.declared.Answer.the-variants.{Read}
@@ -22,7 +23,7 @@ use Rattle.claims_write.specs.Kept.{kept-length}
 use Rattle.claims_write.specs.Claims.{bytes, reading, index, Roomy, reads-back}
 
 module _ (kind : Kind) where
-  module _ (rs ps ns nm : List ℕ) (o : Options) (out : List ℕ) (version size : ℕ)
+  module _ (rs : List ℕ) (ps : Paths) (ns nm : List ℕ) (o : Options) (out : List ℕ) (version size : ℕ)
       (done : writeAll kind depthLimit rs ps ns nm o out .answer ≡ Done version size) (few : length ns < 2 ^ 64) (ends : PathsEnd rs ps)
       (records′ paths′ nodes′ : List ℕ)
       (slices : Slices (bytes kind rs ps ns nm o out version size done few ends records′ paths′ nodes′) paths′ nodes′)

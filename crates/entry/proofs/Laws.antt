@@ -14,6 +14,7 @@ use Rattle.wire.specs.BigEndian.{beAt, bytesOf, length-bytes}
 use Rattle.format.specs.Format.{idSize, fieldsSize}
 use Rattle.entry.specs.Flags.{stageRaw, stageOf, extendedToMemory}
 use Rattle.entry.specs.Mode.{keepMode, modeIn, dirAt}
+use Rattle.entry.specs.Paths.{Paths, lyingIn}
 use Rattle.entry.specs.Record.{frontOf, restOf, recordOf, putRecord, fieldAt, startAt, endAt, idAt, liesInside, pathAt}
 use Rattle.entry.specs.Stat.{timeOf, statAt}
 use Rattle.entry.specs.Laws.{dir-inside, length-front, to-flags, to-start, to-end, length-rest, put-is-paste, field-is, field-out, id-is, id-out, inside-none, inside-crossed, inside-is, path-is}
@@ -135,7 +136,7 @@ pub id-in : (rs d d₁ : List ℕ) (i : ℕ) → d₁ ≡ paste d 0 (drop (i * 9
 id-in rs d d₁ i e l h =
     e ∙ (λ k. take idSize (drop (i * 96 + 40) rs) ++ drop-of-length-le d {i = idSize} (omega arith) k) ∙ append-nil (take idSize (drop (i * 96 + 40) rs)) ∙ sym (id-is idSize rs i h)
 
-module _ (rs ps : List ℕ) (i : ℕ) where
+module _ (rs : List ℕ) (ps : Paths) (i : ℕ) where
   pub path-empty : false ≡ liesInside rs ps i → [] ≡ pathAt rs ps i
   unfolding pathAt
   path-empty e = sym (rw (← e))
@@ -147,8 +148,8 @@ module _ (rs ps : List ℕ) (i : ℕ) where
     pub path-crossed : end < start → [] ≡ pathAt rs ps i
     path-crossed k = path-empty (inside-crossed rs ps i h start end es ee k)
 
-    pub path-past : start ≤ end → length ps < end → [] ≡ pathAt rs ps i
-    path-past k l = path-empty (sym (lt-leb end (length ps) l) ∙ inside-is rs ps i h start end es ee k)
+pub path-past : (rs store : List ℕ) (i : ℕ) → i < length rs / 96 → (start end : ℕ) → start ≡ startAt rs i → end ≡ endAt rs i → start ≤ end → length store < end → [] ≡ pathAt rs (lyingIn store) i
+path-past rs store i h start end es ee k l = path-empty rs (lyingIn store) i (sym (lt-leb end (length store) l) ∙ inside-is rs store i h start end es ee k)
 
 -- ---- what the file system said
 

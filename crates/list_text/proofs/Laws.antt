@@ -11,6 +11,7 @@ use Rattle.format.specs.Format.{depthLimit, idSize}
 use Rattle.lines.specs.Lines.{linesFrom, refusedText}
 use Rattle.sums.specs.Cap.{cap-fits}
 use Rattle.kind.specs.Sha1.{sha1Kind}
+use Rattle.entry.specs.Paths.{Paths, lyingIn}
 use Rattle.lines.specs.Written.{Outcome, outcome, written, copied, text-short, text-written}
 use Rattle.file.specs.Answer.{numberOf, carriesOf, valueOf}
 use Rattle.file.specs.Read as read
@@ -18,7 +19,7 @@ use Rattle.file.specs.declared.Answer.{Answer}
 use Rattle.file.specs.declared.Answer.the-variants.{Read}
 use Rattle.list_text.specs.Listed.{recordsOf, textOf, tooBig, textOfOutcome, listed}
 
-module _ (a : Answer) (rs ps out : List ℕ) (number : ℕ) (is : number ≡ numberOf a) (o : Outcome) where
+module _ (a : Answer) (rs : List ℕ) (ps : Paths) (out : List ℕ) (number : ℕ) (is : number ≡ numberOf a) (o : Outcome) where
   pub answer-read : number ≡ 0 → (n : ℕ) → n ≡ recordsOf a → o ≡ written (linesFrom idSize rs ps n 0) out → o ≡ written (textOf idSize a rs ps) out
   unfolding textOf
   answer-read z n en e = e ∙ ap (λ (k : ℕ). written (linesFrom idSize rs ps k 0) out) en ∙ sym (rw (← is, eq-eqb number 0 z))
@@ -36,7 +37,7 @@ module _ (s out : List ℕ) (o : Outcome) where
   listed-big h e = e ∙ sym (rw (lt-ltb 65536 (length s) h))
 
   pub listed-read : length s ≤ 65536 → (a : Answer) (rs ps ns : List ℕ) → read.outcome a rs ps ns ≡ read.readFile sha1Kind depthLimit s (replicate 49152 0) (replicate 65536 0) (replicate 18432 0)
-      → o ≡ written (textOf idSize a rs ps) out → o ≡ written (listed sha1Kind depthLimit s) out
+      → o ≡ written (textOf idSize a rs (lyingIn ps)) out → o ≡ written (listed sha1Kind depthLimit s) out
   unfolding listed
   listed-read h a rs ps ns er e = e ∙ ap (λ (q : read.Outcome). written (textOfOutcome idSize q) out) er ∙ sym (rw (le-ltb 65536 (length s) h))
 

@@ -19,6 +19,7 @@ use Rattle.wire.specs.Places.{fileAt, pathAt as placed}
 use Rattle.wire.specs.declared.FileAt.{FileAt}
 use Rattle.wire.specs.declared.PathAt.{PathAt}
 use Rattle.entry.specs.Layout.{recordSize, idPlace, startPlace, endPlace}
+use Rattle.entry.specs.Paths.{Paths, lyingIn}
 use Rattle.entry.specs.Record.{recordsIn, putRecord, fieldAt, startAt, endAt, liesInside, pathAt}
 use Rattle.entry.specs.Found.{kept-field, put-start, put-end}
 use Rattle.measure.specs.Inside.{Inside, measured-inside}
@@ -66,7 +67,7 @@ listingRoom = 512 * lineSize + 65536
 
 -- ---- lines and paths
 
-module _ (rs ps : List ℕ) where
+module _ (rs : List ℕ) (ps : Paths) where
   -- how long the paths of the n records from record i on are together
   unfoldable pathsLength : ℕ → ℕ → ℕ
   pathsLength zero i = 0
@@ -83,8 +84,8 @@ module _ (rs ps : List ℕ) where
   unfolding pathAt
   path-at-most i = by (liesInside rs ps i)
     where
-      by : (t : Bool) → length (pick t (take (endAt rs i - startAt rs i) (drop (startAt rs i) ps)) []) ≤ endAt rs i - startAt rs i
-      by true = subst (λ (k : ℕ). k ≤ endAt rs i - startAt rs i) (sym (length-take (endAt rs i - startAt rs i) (drop (startAt rs i) ps))) (min-le-left _ _)
+      by : (t : Bool) → length (pick t (take (endAt rs i - startAt rs i) (drop (startAt rs i) (ps .store))) []) ≤ endAt rs i - startAt rs i
+      by true = subst (λ (k : ℕ). k ≤ endAt rs i - startAt rs i) (sym (length-take (endAt rs i - startAt rs i) (drop (startAt rs i) (ps .store)))) (min-le-left _ _)
       by false = omega arith
 
 -- ---- a run of entries
@@ -102,7 +103,7 @@ module _ (s : List ℕ) (end : FileAt) (version : ℕ) where
   -- the paths of the records that a run stored lie one behind the other
   paths-lie-behind : {n i : ℕ} {at : FileAt} {used : PathAt} {first : Bool} {prev : ℕ} {sparse : Bool} {rs ps : List ℕ} {o : entries.Outcome} → Ran idSize s end version n i at used first prev sparse rs ps o
       → prev ≤ used .0 → used .0 ≤ length ps → length ps < 2 ^ 64 → (next : FileAt) (used′ : PathAt) (sparse′ : Bool) → o .answer ≡ Done next used′ sparse′
-      → used .0 + pathsLength (o .records) (o .paths) n i ≤ used′ .0
+      → used .0 + pathsLength (o .records) (lyingIn (o .paths)) n i ≤ used′ .0
   unfolding pathsLength
   paths-lie-behind (done {used = used}) hp hu small next used′ sparse′ q =
       let b : used ≡ used′ = cc in
@@ -119,7 +120,7 @@ module _ (s : List ℕ) (end : FileAt) (version : ℕ) where
       let starts : startAt (o .records) i ≡ used .0 = field-stays r i 8 startPlace (omega arith) (lit≤ tt) ∙ put-start idSize s (at .0) flags (used .0) stop rs i (lit≤ tt) front hi (omega arith) in
       let ends : endAt (o .records) i ≡ stop = field-stays r i 8 endPlace (omega arith) (lit≤ tt) ∙ put-end idSize s (at .0) flags (used .0) stop rs i (lit≤ tt) front hi (omega arith) in
       let rest = paths-lie-behind r (omega arith) (omega (arith, l .paths)) (omega (arith, l .paths)) next used′ sparse′ q in
-      omega (arith, rest, starts, ends, path-at-most (o .records) (o .paths) i)
+      omega (arith, rest, starts, ends, path-at-most (o .records) (lyingIn (o .paths)) i)
 
   -- where a run stops is within its count
   stops-within : {n i : ℕ} {at : FileAt} {used : PathAt} {first : Bool} {prev : ℕ} {sparse : Bool} {rs ps : List ℕ} {o : entries.Outcome} → Ran idSize s end version n i at used first prev sparse rs ps o
@@ -148,7 +149,7 @@ refusal-short number value true h k =
     omega (arith, refused-carried number value (length (digitsOf 10 number)) (length (digitsOf 10 value)) true refl refl refl, digits-fit number _ refl h, digits-fit value _ refl k)
 refusal-short number value false h k = omega (arith, refused-alone number value (length (digitsOf 10 number)) 0 false refl refl, digits-fit number _ refl h)
 
-answer-short : (a : Answer) (rs ps : List ℕ) → (numberOf a ≡ 0 → ⊥) → numberOf a ≤ most → valueOf a ≤ most → length (textOf idSize a rs ps) ≤ refusalRoom
+answer-short : (a : Answer) (rs : List ℕ) (ps : Paths) → (numberOf a ≡ 0 → ⊥) → numberOf a ≤ most → valueOf a ≤ most → length (textOf idSize a rs ps) ≤ refusalRoom
 unfolding textOf
 answer-short a rs ps d h k = rw (ne-eqb (numberOf a) 0 d) (refusal-short (numberOf a) (valueOf a) (carriesOf a) h k)
 
@@ -164,7 +165,7 @@ module _ (s : List ℕ) (bytes : (i : ℕ) → getD s i 0 < 256) (m : ℕ) (line
   mandatory-small {at = at} (chain-more w c) (refused-here q) = omega (arith, w .named, word-small at)
   mandatory-small (chain-more w c) (refused-later q f) = mandatory-small c f
 
-  module _ (rs ps : List ℕ) where
+  module _ (rs : List ℕ) (ps : Paths) where
     -- the text of an answer to which these stores belong
     abbrev Fits : Answer → Type 0
     Fits a = length (textOf idSize a rs ps) ≤ m
@@ -215,12 +216,12 @@ module _ (s : List ℕ) (bytes : (i : ℕ) → getD s i 0 < 256) (m : ℕ) (line
         let d : Reaches idSize (lit≤ tt) s end version count 0 headerSize 0 rs ps (next .0) (used .0) = done-reaches idSize (lit≤ tt) s end version r (omega arith) (omega arith) next used sparse q in
         let paths = paths-lie-behind s end version r (omega arith) (omega arith) lent next used sparse q in
         let records : count ≤ recordsIn rs = ⊎-elim (λ z. omega arith) (λ z. omega arith) (d .slots) in
-        let fit : length (linesFrom idSize (o .records) (o .paths) count 0) ≤ m = omega (arith, lines-length (o .records) (o .paths) count 0, paths, d .within) in
-        extensions-fit (o .records) (o .paths) (record { version = version; sparse = sparse; records = count; used = used .0 }) fit (next .0) (d .stops (omega arith)) small ns
+        let fit : length (linesFrom idSize (o .records) (lyingIn (o .paths)) count 0) ≤ m = omega (arith, lines-length (o .records) (lyingIn (o .paths)) count 0, paths, d .within) in
+        extensions-fit (o .records) (lyingIn (o .paths)) (record { version = version; sparse = sparse; records = count; used = used .0 }) fit (next .0) (d .stops (omega arith)) small ns
     ran-fits version count few long o r (NotSpelled k) q =
-        refusal-fits (o .records) (o .paths) (answer.NotSpelled k) (λ z. omega arith) (lit≤ tt) (omega (arith, ap (reached count 0) q, stops-within s end version r))
+        refusal-fits (o .records) (lyingIn (o .paths)) (answer.NotSpelled k) (λ z. omega arith) (lit≤ tt) (omega (arith, ap (reached count 0) q, stops-within s end version r))
     ran-fits version count few long o r (NoRoom k) q =
-        refusal-fits (o .records) (o .paths) (answer.NoEntryRoom k) (λ z. omega arith) (lit≤ tt) (omega (arith, ap (reached count 0) q, stops-within s end version r))
+        refusal-fits (o .records) (lyingIn (o .paths)) (answer.NoEntryRoom k) (λ z. omega arith) (lit≤ tt) (omega (arith, ap (reached count 0) q, stops-within s end version r))
 
     entries-fit : (version count : ℕ) → count ≤ most → headerSize + idSize ≤ length s → FitsAll (entriesInto idSize depthLimit s version count rs ps ns)
     unfolding entriesInto
@@ -233,16 +234,16 @@ module _ (s : List ℕ) (bytes : (i : ℕ) → getD s i 0 < 256) (m : ℕ) (line
     opens-fits : (version count : ℕ) → count ≤ most → headerSize + idSize ≤ length s → (t : Bool)
         → FitsAll (pick t (entriesInto idSize depthLimit s version count rs ps ns) (outcome answer.BadTrailer rs ps ns))
     opens-fits version count few long true = entries-fit version count few long
-    opens-fits version count few long false = refusal-fits rs ps answer.BadTrailer (λ z. omega arith) (lit≤ tt) (lit≤ tt)
+    opens-fits version count few long false = refusal-fits rs (lyingIn ps) answer.BadTrailer (λ z. omega arith) (lit≤ tt) (lit≤ tt)
 
     file-fits : FitsAll (readFile sha1Kind depthLimit s rs ps ns)
     unfolding readFile headerAt onVersion
     file-fits =
-        by-less P (length s) (headerSize + idSize) (λ h. refusal-fits rs ps answer.ShortFile (λ z. omega arith) (lit≤ tt) (lit≤ tt))
+        by-less P (length s) (headerSize + idSize) (λ h. refusal-fits rs (lyingIn ps) answer.ShortFile (λ z. omega arith) (lit≤ tt) (lit≤ tt))
         (λ long. by-same P (beAt 4 s 0) signature
         (λ d. by-same P version 2 (λ e. opens long) (λ e. by-same P version 3 (λ e. opens long) (λ e. by-same P version 4 (λ e. opens long)
-        (λ e. refusal-fits rs ps (answer.OtherVersion version) (λ z. omega arith) (lit≤ tt) (word-small 4)))))
-        (λ d. refusal-fits rs ps answer.NoSignature (λ z. omega arith) (lit≤ tt) (lit≤ tt)))
+        (λ e. refusal-fits rs (lyingIn ps) (answer.OtherVersion version) (λ z. omega arith) (lit≤ tt) (word-small 4)))))
+        (λ d. refusal-fits rs (lyingIn ps) answer.NoSignature (λ z. omega arith) (lit≤ tt) (lit≤ tt)))
       where
         version : ℕ
         version = beAt 4 s 4

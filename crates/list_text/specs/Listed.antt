@@ -6,6 +6,7 @@ use lib.Dec.{ltb, eqb}
 use lib.ListN.{length, replicate}
 use Rattle.laws.specs.Pick.{pick}
 use Rattle.kind.specs.Kind.{Kind}
+use Rattle.entry.specs.Paths.{Paths, lyingIn}
 use Rattle.file.specs.Answer.{numberOf, carriesOf, valueOf}
 use Rattle.file.specs.Read.{Outcome, readFile}
 use Rattle.file.specs.declared.Answer.{Answer}
@@ -27,7 +28,7 @@ recordsOf TooDeep = 0
 recordsOf NoNodeRoom = 0
 
 -- number 0 is a file that was read: a line for each record; any other is a refusal: one line
-unfoldable pub textOf : ℕ → Answer → List ℕ → List ℕ → List ℕ
+unfoldable pub textOf : ℕ → Answer → List ℕ → Paths → List ℕ
 textOf id a rs ps = pick (eqb (numberOf a) 0) (linesFrom id rs ps (recordsOf a) 0) (refusedText (numberOf a) (carriesOf a) (valueOf a))
 
 -- "too big" and a newline
@@ -35,7 +36,7 @@ abbrev pub tooBig : List ℕ
 tooBig = 116 ∷ 111 ∷ 111 ∷ space ∷ 98 ∷ 105 ∷ 103 ∷ newline ∷ []
 
 abbrev pub textOfOutcome : ℕ → Outcome → List ℕ
-textOfOutcome id o = textOf id (o .answer) (o .records) (o .paths)
+textOfOutcome id o = textOf id (o .answer) (o .records) (lyingIn (o .paths))
 
 -- what the listing program prints of a file, over the kind and the depth limit of trees
 unfoldable pub listed : Kind → ℕ → List ℕ → List ℕ

@@ -5,6 +5,7 @@ ghost use Rattle.list_text.specs.Listed.{recordsOf, textOf, tooBig, list
 use file::Answer;
 ghost use Rattle.format.specs.Format.{depthLimit, idSize};
 ghost use Rattle.kind.specs.Sha1.{sha1Kind};
+ghost use Rattle.entry.specs.Paths.{lyingIn};
 
 // The largest file that the listing program reads, and the room that it lends: 512 records, 65,536 path bytes and 256 nodes.
 const MOST_BYTES: usize = 65536;
@@ -47,7 +48,7 @@ fn records_of(answer: Answer) -> usize
 // Writes an answer as text at the start of out: the lines of its records, or one line that names the refusal. Answers how long the text is; where it does not fit, out
 // stays as it was.
 pub fn write_lines(answer: Answer, records: &[u8], paths: &[u8], out: &mut [u8]) -> usize
-    ensures { λ r. ⌜ outcome r (now (out .exit)) ≡ written (textOf idSize answer (now (records .entry)) (now (paths .entry))) (now (out .entry)) ⌝ }
+    ensures { λ r. ⌜ outcome r (now (out .exit)) ≡ written (textOf idSize answer (now (records .entry)) (lyingIn (now (paths .entry)))) (now (out .entry)) ⌝ }
 {
     let number = file::number(answer);
     if number == 0 {

@@ -12,6 +12,7 @@ use Rattle.sums.specs.Cap.{cap, cap-fits, cap-le, cap-below}
 use Rattle.format.specs.Format.{depthLimit, idSize}
 use Rattle.kind.specs.Sha1.{sha1Kind}
 use Rattle.tree_write.specs.Tree.{treeBytes}
+use Rattle.entry.specs.Paths.{Paths}
 use Rattle.entry.specs.Record.{recordsIn}
 use Rattle.write.specs.declared.Options.{Options}
 use Rattle.write.specs.declared.Answer.{Answer}
@@ -39,7 +40,7 @@ unfolding countOf
 count-most rs zero i = omega arith
 count-most rs (suc n) i = omega (arith, kept-most rs i, count-most rs n (i + 1))
 
-pub count-small : (rs ps : List ℕ) (version count size n : ℕ) → Counted idSize rs ps version count size → n ≡ recordsIn rs → n ≤ most → count ≤ most
+pub count-small : (rs : List ℕ) (ps : Paths) (version count size n : ℕ) → Counted idSize rs ps version count size → n ≡ recordsIn rs → n ≤ most → count ≤ most
 count-small rs ps version count size n known en few = omega (arith, known .counted, count-most rs (recordsIn rs) 0)
 
 pub tree-small : (a t h b : ℕ) → b ≡ cap (cap (a + t) + h) → b ≤ most → t ≤ most
@@ -54,7 +55,7 @@ end-bound false e q = omega arith
 
 -- ---- a table that was sized
 
-module _ (rs ps ns nm : List ℕ) (o : Options) where
+module _ (rs : List ℕ) (ps : Paths) (ns nm : List ℕ) (o : Options) where
   abbrev body : List ℕ
   body = bodyBytes idSize depthLimit rs ps ns nm o
 
@@ -159,7 +160,7 @@ of-size : (m : First) (v c k v₁ c₁ k₁ : ℕ) → onFirst m (λ i. sized.Ou
 of-size (found i) v c k v₁ c₁ k₁ e = absurd (of-not-outside (sym e))
 of-size nowhere v c k v₁ c₁ k₁ e = (refl, (cc), (cc), (cc))
 
-module _ (rs ps : List ℕ) (a : Sized) (is : a ≡ sizeTable idSize rs ps) where
+module _ (rs : List ℕ) (ps : Paths) (a : Sized) (is : a ≡ sizeTable idSize rs ps) where
   sized-is : a ≡ onFirst (firstFault rs ps (recordsIn rs) 0) (λ i. sized.Outside i) (sized.Of (versionOf rs) (0 + countOf rs (recordsIn rs) 0) (cap (12 + length (tableBytes idSize rs ps))))
   sized-is = is ∙ size-is idSize rs ps (recordsIn rs) 0 2 0 12 (omega arith)
 

@@ -13,6 +13,7 @@ use Rattle.wire.specs.BigEndian.{bytesOf, length-bytes}
 use Rattle.sums.specs.Cap.{cap, cap-fits, cap-cap, cap-cap-right}
 use Rattle.format.specs.Format.{depthLimit, idSize}
 use Rattle.kind.specs.Sha1.{sha1Kind}
+use Rattle.entry.specs.Paths.{Paths}
 use Rattle.tree_write.specs.Tree.{treeBytes, putFit}
 use Rattle.proper.specs.Proper.{isProper}
 use Rattle.write.specs.declared.Options.{Options}
@@ -107,7 +108,7 @@ header-put d d₁ d₂ d₃ version count room e₁ e₂ e₃ =
 
 -- ---- header and entries
 
-module _ (rs ps : List ℕ) (version count : ℕ) where
+module _ (rs : List ℕ) (ps : Paths) (version count : ℕ) where
   abbrev h : List ℕ
   h = headerOf version count
 
@@ -234,7 +235,7 @@ unfolding endSize
 length-eoie-part true offset toc = omega (arith, length-eoie sha1Kind true offset toc refl)
 length-eoie-part false offset toc = omega (arith, eoie-none false offset toc refl 0)
 
-module _ (rs ps ns nm : List ℕ) (version count : ℕ) (writes sparse : Bool) where
+module _ (rs : List ℕ) (ps : Paths) (ns nm : List ℕ) (version count : ℕ) (writes sparse : Bool) where
   abbrev front : List ℕ
   front = frontOf idSize rs ps version count
 

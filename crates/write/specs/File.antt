@@ -11,6 +11,7 @@ use Rattle.laws.specs.Pick.{pick}
 use Rattle.laws.specs.Put.{put}
 use Rattle.wire.specs.BigEndian.{bytesOf}
 use Rattle.sums.specs.Cap.{cap}
+use Rattle.entry.specs.Paths.{Paths}
 use Rattle.entry.specs.Record.{recordsIn}
 use Rattle.refusal.specs.Refusal.{path-outside, short-output, too-large, not-proper}
 use Rattle.format.specs.Format.{headerSize, extensionHeaderSize, offsetSize, eoieSize, eoieWholeSize}
@@ -84,15 +85,15 @@ trailerOf kind skips before = pick skips (replicate (kind .id) 0) (kind .hash be
 -- ---- the whole
 
 -- header and entries
-unfoldable pub frontOf : ℕ → List ℕ → List ℕ → ℕ → ℕ → List ℕ
+unfoldable pub frontOf : ℕ → List ℕ → Paths → ℕ → ℕ → List ℕ
 frontOf id rs ps version count = headerOf version count ++ tableBytes id rs ps
 
 -- the bytes before EOIE's place
-unfoldable pub bodyOf : ℕ → List ℕ → List ℕ → ℕ → ℕ → List Extension → List ℕ
+unfoldable pub bodyOf : ℕ → List ℕ → Paths → ℕ → ℕ → List Extension → List ℕ
 bodyOf id rs ps version count es = frontOf id rs ps version count ++ extensionsOf es
 
 -- where the extensions start
-abbrev pub offsetOf : ℕ → List ℕ → List ℕ → ℕ
+abbrev pub offsetOf : ℕ → List ℕ → Paths → ℕ
 offsetOf id rs ps = headerSize + length (tableBytes id rs ps)
 
 -- what stands behind the bytes before EOIE's place
@@ -135,10 +136,10 @@ treeFits limit ns nm writes = pick writes (isProper limit ns nm) true
 abbrev pub extensionsAsked : ℕ → ℕ → List ℕ → List ℕ → Options → List Extension
 extensionsAsked id limit ns nm o = extensionsFor (writesTree o) (treeBytes id limit ns nm) (o .sparse)
 
-unfoldable pub bodyBytes : ℕ → ℕ → List ℕ → List ℕ → List ℕ → List ℕ → Options → List ℕ
+unfoldable pub bodyBytes : ℕ → ℕ → List ℕ → Paths → List ℕ → List ℕ → Options → List ℕ
 bodyBytes id limit rs ps ns nm o = bodyOf id rs ps (versionOf rs) (countOf rs (recordsIn rs) 0) (extensionsAsked id limit ns nm o)
 
-unfoldable pub fileBytes : Kind → ℕ → List ℕ → List ℕ → List ℕ → List ℕ → Options → List ℕ
+unfoldable pub fileBytes : Kind → ℕ → List ℕ → Paths → List ℕ → List ℕ → Options → List ℕ
 fileBytes kind limit rs ps ns nm o =
     fileOf kind (closedOf kind (bodyBytes (kind .id) limit rs ps ns nm o) (hasEoie (recordsIn rs) o) (offsetOf (kind .id) rs ps) (contents (extensionsAsked (kind .id) limit ns nm o))) (o .unhashed)
 
@@ -169,18 +170,18 @@ extensionsPlanned id limit ns nm h = extensionsFor (h .tree) (treeBytes id limit
 abbrev pub extensionsIn : ℕ → ℕ → List ℕ → List ℕ → Heads → List ℕ
 extensionsIn id limit ns nm h = extensionsOf (extensionsPlanned id limit ns nm h)
 
-abbrev pub planBody : ℕ → ℕ → List ℕ → List ℕ → List ℕ → List ℕ → Plan → List ℕ
+abbrev pub planBody : ℕ → ℕ → List ℕ → Paths → List ℕ → List ℕ → Plan → List ℕ
 planBody id limit rs ps ns nm p = bodyOf id rs ps (p .version) (p .count) (extensionsPlanned id limit ns nm (p .heads))
 
 abbrev pub eoieFor : Kind → Plan → ℕ → List ℕ
 eoieFor kind p offset = eoiePart kind (p .eoie) offset (headsIn (p .heads))
 
-abbrev pub planFile : Kind → ℕ → List ℕ → List ℕ → List ℕ → List ℕ → Plan → List ℕ
+abbrev pub planFile : Kind → ℕ → List ℕ → Paths → List ℕ → List ℕ → Plan → List ℕ
 planFile kind limit rs ps ns nm p =
     fileOf kind (closedOf kind (planBody (kind .id) limit rs ps ns nm p) (p .eoie) (offsetOf (kind .id) rs ps) (contents (extensionsPlanned (kind .id) limit ns nm (p .heads)))) (p .unhashed)
 
 -- what the sizing pass finds where no record has a fault
-pub record Counted (id : ℕ) (rs ps : List ℕ) (version count size : ℕ) : Type 0 where
+pub record Counted (id : ℕ) (rs : List ℕ) (ps : Paths) (version count size : ℕ) : Type 0 where
   pub versioned : version ≡ versionOf rs
   pub counted : count ≡ countOf rs (recordsIn rs) 0
   pub sized : size ≡ cap (headerSize + length (tableBytes id rs ps))
@@ -222,11 +223,11 @@ writeFile records version body file out =
     (pick (ltb (length out) (length file)) (outcome (ShortOutput (length file)) out)
     (outcome (Done version (length file)) (file ++ drop (length file) out))))
 
-abbrev pub writeTable : Kind → ℕ → List ℕ → List ℕ → List ℕ → List ℕ → Options → List ℕ → Outcome
+abbrev pub writeTable : Kind → ℕ → List ℕ → Paths → List ℕ → List ℕ → Options → List ℕ → Outcome
 writeTable kind limit rs ps ns nm o out = writeFile (recordsIn rs) (versionOf rs) (bodyBytes (kind .id) limit rs ps ns nm o) (fileBytes kind limit rs ps ns nm o) out
 
 -- the first record with a fault, a table that is not proper, and then the file
-unfoldable pub writeAll : Kind → ℕ → List ℕ → List ℕ → List ℕ → List ℕ → Options → List ℕ → Outcome
+unfoldable pub writeAll : Kind → ℕ → List ℕ → Paths → List ℕ → List ℕ → Options → List ℕ → Outcome
 writeAll kind limit rs ps ns nm o out =
     onFirst (firstFault rs ps (recordsIn rs) 0) (λ i. outcome (PathOutside i) out)
     (pick (treeFits limit ns nm (writesTree o)) (writeTable kind limit rs ps ns nm o out) (outcome NotProper out))

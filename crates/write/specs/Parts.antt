@@ -7,20 +7,21 @@ use native.Mathlib.Omega.{arith}
 use lib.ListN.{length, length-append, length-replicate}
 use Rattle.wire.specs.BigEndian.{bytesOf, length-bytes}
 use Rattle.kind.specs.Kind.{Kind}
+use Rattle.entry.specs.Paths.{Paths}
 use Rattle.entry.specs.Record.{recordsIn}
 use Rattle.write.specs.declared.Options.{Options}
 use Rattle.write_entries.specs.Entries.{countOf, tableBytes}
 use Rattle.write.specs.File.{headerOf, versionOf, extensionHead, treeSignature, sparseSignature, eoieSignature, treeHead, sparsePart, contents, eoiePart, trailerOf, frontOf, extensionsOf, bodyOf, offsetOf, closedOf, fileOf, headSize, hasEoie, extensionsAsked, bodyBytes, fileBytes}
 
 -- all but the trailer is header, entries, extensions and EOIE; `eoie` is the last part, whatever it holds
-pub closed-parts : (id limit : ℕ) (rs ps ns nm : List ℕ) (o : Options) (eoie : List ℕ)
+pub closed-parts : (id limit : ℕ) (rs : List ℕ) (ps : Paths) (ns nm : List ℕ) (o : Options) (eoie : List ℕ)
     → bodyBytes id limit rs ps ns nm o ++ eoie
     ≡ headerOf (versionOf rs) (countOf rs (recordsIn rs) 0) ++ (tableBytes id rs ps ++ (extensionsOf (extensionsAsked id limit ns nm o) ++ eoie))
 unfolding bodyBytes bodyOf frontOf
 closed-parts id limit rs ps ns nm o eoie = simp append-assoc
 
 -- the whole file is that and the trailer over it
-pub file-parts : (kind : Kind) (limit : ℕ) (rs ps ns nm : List ℕ) (o : Options)
+pub file-parts : (kind : Kind) (limit : ℕ) (rs : List ℕ) (ps : Paths) (ns nm : List ℕ) (o : Options)
     → fileBytes kind limit rs ps ns nm o
     ≡ (bodyBytes (kind .id) limit rs ps ns nm o ++ eoiePart kind (hasEoie (recordsIn rs) o) (offsetOf (kind .id) rs ps) (contents (extensionsAsked (kind .id) limit ns nm o)))
     ++ trailerOf kind (o .unhashed)

@@ -6,6 +6,7 @@ ghost use Rattle.laws.specs.Put.{put};
 ghost use Rattle.sums.specs.Cap.{cap};
 ghost use Rattle.format.specs.Format.{depthLimit, idSize, headerSize};
 ghost use Rattle.kind.specs.Sha1.{sha1Kind};
+ghost use Rattle.entry.specs.Paths.{lyingIn};
 ghost use Rattle.write.specs.File.{headerOf, frontOf, extensionsIn, planBody, planFile, eoieFor, offsetOf, endOf, headSize, endSize, most, treeOf, treeFits, writesTree, hasEoie, Puts, Counted, outcome, writeTable, writeAll};
 use extension::Heads;
 use write_entries::Sized;
@@ -125,9 +126,9 @@ fn put_header(version: u32, count: u32, out: &mut [u8])
 
 // Writes header and entries, and answers where they end.
 fn fill_front(records: &[u8], paths: &[u8], version: u32, count: u32, out: &mut [u8]) -> usize
-    requires { ⌜ length (frontOf idSize (now records) (now paths) version count) ≤ length (now out) ⌝ }
-    ensures { λ r. ⌜ r ≡ offsetOf idSize (now (records .entry)) (now (paths .entry)) ⌝ }
-    ensures { λ _. ⌜ now (out .exit) ≡ put (now (out .entry)) 0 (frontOf idSize (now (records .entry)) (now (paths .entry)) version count) ⌝ }
+    requires { ⌜ length (frontOf idSize (now records) (lyingIn (now paths)) version count) ≤ length (now out) ⌝ }
+    ensures { λ r. ⌜ r ≡ offsetOf idSize (now (records .entry)) (lyingIn (now (paths .entry))) ⌝ }
+    ensures { λ _. ⌜ now (out .exit) ≡ put (now (out .entry)) 0 (frontOf idSize (now (records .entry)) (lyingIn (now (paths .entry))) version count) ⌝ }
 {
     put_header(version, count, out);
     write_entries::put_entries(records, paths, out, format::HEADER_SIZE)
@@ -158,10 +159,17 @@ fn fill_end(p: Plan, offset: u32, out: &mut [u8], at: usize)
 // Writes the whole file.
 fn fill(records: &[u8], paths: &[u8], nodes: &[u8], names: &[u8], p: Plan, out: &mut [u8])
     requires { ⌜ p .heads .size ≡ length (treeOf idSize depthLimit (now nodes) (now names) (p .heads .tree)) ⌝ }
-    requires { ⌜ offsetOf idSize (now records) (now paths) ≤ most ⌝ }
-    requires { ⌜ length (planBody idSize depthLimit (now records) (now paths) (now nodes) (now names) p) + endSize idSize (p .eoie) ≤ length (now out) ⌝ }
+    requires { ⌜ offsetOf idSize (now records) (lyingIn (now paths)) ≤ most ⌝ }
+    requires { ⌜ length (planBody idSize depthLimit (now records) (lyingIn (now paths)) (now nodes) (now names) p) + endSize idSize (p .eoie) ≤ length (now out) 
+            requires { ⌜ length (planBody idSize depthLimit (now records) (lyingIn (now paths)) (now nodes) (now names) p) + endSize idSize
+            (p .eoie) ≤ length (now out) ⌝
+            requires { ⌜ length (planBody idSize depthLimit (now records) (lyingIn (now paths)) (now nodes) (now names) p) + endSize idSize
+            (p .eoie) ≤ length (now out) ⌝ 
+            requires { ⌜ length (planBody idSize depthLimit (now records) (lyingIn (now paths)) (now nodes) (now names) p) + endSize idSize
+            (p .eoie) ≤ length (now out) ⌝ }
     ensures { λ _. ⌜ now (out .exit)
-        ≡ put (now (out .entry)) 0 (planFile sha1Kind depthLimit (now (records .entry)) (now (paths .entry)) (now (nodes .entry)) (now (names .entry)) p) ⌝ }
+        ≡ put (now (out .entry)) 0
+            (planFile sha1Kind depthLimit (now (records .entry)) (lyingIn (now (paths .entry))) (now (nodes .entry)) (now (names .entry)) p) ⌝ }
 {
     let offset = fill_front(records, paths, p.version, p.count, out);
     let end = fill_extensions(nodes, names, p.heads, out, offset);
@@ -212,9 +220,10 @@ fn write_sized(
     t: Totals,
     out: &mut [u8],
 ) -> Answer
-    requires { ⌜ Counted idSize (now records) (now paths) (t .version) (t .count) (t .size) ⌝ }
+    requires { ⌜ Counted idSize (now records) (lyingIn (now paths)) (t .version) (t .count) (t .size) ⌝ }
     ensures { λ r. ⌜ outcome r (now (out .exit))
-        ≡ writeTable sha1Kind depthLimit (now (records .entry)) (now (paths .entry)) (now (nodes .entry)) (now (names .entry)) o (now (out .entry)) ⌝ }
+        ≡ writeTable sha1Kind depthLimit (now (records .entry)) (lyingIn (now (paths .entry))) (now (nodes .entry)) (now (names .entry)) o
+            (now (out .entry)) ⌝ }
 {
     let n = entry::records_in(records);
     let writes = writes_tree(o);
@@ -261,7 +270,7 @@ pub fn write_to(
     out: &mut [u8],
 ) -> Answer
     ensures { λ r. ⌜ outcome r (now (out .exit))
-        ≡ writeAll sha1Kind depthLimit (now (records .entry)) (now (paths .entry)) (now (nodes .entry)) (now (names .entry)) o (now (out .entry)) ⌝ }
+        ≡ writeAll sha1Kind depthLimit (now (records .entry)) (lyingIn (now (paths .entry))) (now (nodes .entry)) (now (names .entry)) o (now (out .entry)) ⌝ }
 {
     let s = write_entries::size_entries(records, paths);
     match s {
