@@ -16,6 +16,7 @@ use Rattle.refusal.specs.Bit.{bit}
 use Rattle.format.specs.Format.{depthLimit, idSize}
 use Rattle.kind.specs.Sha1.{sha1Kind}
 use Rattle.entry.specs.Flags.{keepFlags, bit as isSet}
+use Rattle.entry.specs.Paths.{Paths, lyingIn}
 use Rattle.entry.specs.Record.{recordsIn}
 use Rattle.node.specs.Store.{nodesIn}
 use Rattle.access.specs.Lookup.{highestStage}
@@ -149,7 +150,7 @@ module _ {s rs ps ns values rs′ ps′ ns′ : List ℕ} {code : ℕ} (call : R
 module _ {s rs ps ns values rs′ ps′ ns′ : List ℕ} {code : ℕ} (call : ReadCall s rs ps ns code values rs′ ps′ ns′) (slices : Slices s ps ns)
     (returned : code ≡ 0) (m : Index) (means : File idSize s m) where
   -- what the proofs cite: the records that were told show the entries, and are no more than these
-  shown : EachShown idSize (recordsTold values rs′) ps′ (m .entries)
+  shown : EachShown idSize (recordsTold values rs′) (lyingIn ps′) (m .entries)
   shown = tables-show call slices returned m means .entries
 
   many : recordsIn (recordsTold values rs′) ≡ length (m .entries)
@@ -159,7 +160,7 @@ module _ {s rs ps ns values rs′ ps′ ns′ : List ℕ} {code : ℕ} (call : R
 
   -- `sparrowpivot_record` tells entry i: mode, flags, stage, where its path starts and ends in the path store, that it lies there, that there is such a record, and the size of its file
   pub record-tells-the-entry : {i code₁ : ℕ} {values₁ : List ℕ} {e : Meaning} → EntryIs (m .entries) i e
-      → RecordCall (recordsTold values rs′) ps′ i code₁ values₁
+      → RecordCall (recordsTold values rs′) (lyingIn ps′) i code₁ values₁
       → (start : ℕ) × (end : ℕ) × (code₁ ≡ 0) × (values₁ ≡ e .stat .mode ∷ e .flags ∷ stageOf e ∷ start ∷ end ∷ 1 ∷ 1 ∷ e .stat .size ∷ [])
       × Stands ps′ start end (e .path)
   record-tells-the-entry {i} {e = e} q c =
@@ -179,9 +180,9 @@ module _ {s rs ps ns values rs′ ps′ ns′ : List ℕ} {code : ℕ} (call : R
   record-id-tells-the-entry {i} {e = e} q c = record-id-tells c ∙ shown i e q .id
 
   -- and behind the last entry there is no record: all is 0
-  pub no-record-behind-the-entries : {i code₁ : ℕ} {values₁ : List ℕ} → length (m .entries) ≤ i → RecordCall (recordsTold values rs′) ps′ i code₁ values₁
+  pub no-record-behind-the-entries : {i code₁ : ℕ} {values₁ : List ℕ} → length (m .entries) ≤ i → RecordCall (recordsTold values rs′) (lyingIn ps′) i code₁ values₁
       → (code₁ ≡ 0) × (values₁ ≡ replicate 8 0)
-  no-record-behind-the-entries {i} h c = no-record-told (recordsTold values rs′) i (omega (arith, many)) ps′ (record-tells c)
+  no-record-behind-the-entries {i} h c = no-record-told (recordsTold values rs′) i (omega (arith, many)) (lyingIn ps′) (record-tells c)
 
   pub no-record-stat-behind-the-entries : {i code₁ : ℕ} {values₁ : List ℕ} → length (m .entries) ≤ i → RecordStatCall (recordsTold values rs′) i code₁ values₁
       → (code₁ ≡ 0) × (values₁ ≡ replicate 8 0)
@@ -221,27 +222,27 @@ module _ {s rs ps ns values rs′ ps′ ns′ : List ℕ} {code : ℕ} (call : R
   -- ---- 5. ORDER AND LOOKUP, over these records
 
   -- `sparrowpivot_check_order` returns 0 exactly if the entries are strictly in order
-  pub check-order-returns-0-exactly : {code₁ : ℕ} {values₁ : List ℕ} → CheckOrderCall (recordsTold values rs′) ps′ code₁ values₁
+  pub check-order-returns-0-exactly : {code₁ : ℕ} {values₁ : List ℕ} → CheckOrderCall (recordsTold values rs′) (lyingIn ps′) code₁ values₁
       → (code₁ ≡ 0) ↔ InOrder (m .entries)
   check-order-returns-0-exactly c = searching.order-0-exactly c (m .entries) shown many
 
   -- 13 with i exactly when entry i is the first that does not come strictly after the one before
-  pub check-order-returns-13-exactly : {code₁ : ℕ} {values₁ : List ℕ} → CheckOrderCall (recordsTold values rs′) ps′ code₁ values₁ → (i : ℕ)
+  pub check-order-returns-13-exactly : {code₁ : ℕ} {values₁ : List ℕ} → CheckOrderCall (recordsTold values rs′) (lyingIn ps′) code₁ values₁ → (i : ℕ)
       → ((code₁ ≡ not-after) × (value values₁ 0 ≡ i)) ↔ FirstNotAfter (m .entries) i
   check-order-returns-13-exactly c = searching.order-13-exactly c (m .entries) shown many
 
   -- and nothing else: no path of what was read lies outside
-  pub check-order-returns-0-or-13 : {code₁ : ℕ} {values₁ : List ℕ} → CheckOrderCall (recordsTold values rs′) ps′ code₁ values₁
+  pub check-order-returns-0-or-13 : {code₁ : ℕ} {values₁ : List ℕ} → CheckOrderCall (recordsTold values rs′) (lyingIn ps′) code₁ values₁
       → (code₁ ≡ 0) ⊎ (code₁ ≡ not-after)
   check-order-returns-0-or-13 c = searching.order-0-or-13 c (m .entries) shown many
 
   -- `sparrowpivot_lookup` returns 11 exactly if a stage above 3 is looked for
-  pub lookup-returns-11-exactly : {key : List ℕ} {stage code₁ : ℕ} {values₁ : List ℕ} → LookupCall (recordsTold values rs′) ps′ key stage code₁ values₁
+  pub lookup-returns-11-exactly : {key : List ℕ} {stage code₁ : ℕ} {values₁ : List ℕ} → LookupCall (recordsTold values rs′) (lyingIn ps′) key stage code₁ values₁
       → (code₁ ≡ no-stage) ↔ (highestStage < stage)
   lookup-returns-11-exactly c = searching.lookup-11-exactly c
 
   module _ (order : InOrder (m .entries)) {key : List ℕ} {stage code₁ : ℕ} {values₁ : List ℕ}
-      (c : LookupCall (recordsTold values rs′) ps′ key stage code₁ values₁) (small : stage ≤ highestStage) where
+      (c : LookupCall (recordsTold values rs′) (lyingIn ps′) key stage code₁ values₁) (small : stage ≤ highestStage) where
     -- if the entries are in order, at stages 0 to 3 it returns 0
     pub lookup-returns-0 : code₁ ≡ 0
     lookup-returns-0 = searching.lookup-0 c (m .entries) shown many order small
@@ -260,7 +261,7 @@ pub options-are-the-low-bits : (n : ℕ)
     → optionsFrom n ≡ record { tree = isSet 0 n; cache = isSet 1 n; eoie = isSet 2 n; sparse = isSet 3 n; unhashed = isSet 4 n }
 options-are-the-low-bits n = refl
 
-module _ {rs ps ns nm out values out′ : List ℕ} {options code : ℕ} (call : WriteCall rs ps ns nm options out code values out′) where
+module _ {rs : List ℕ} {ps : Paths} {ns nm out values out′ : List ℕ} {options code : ℕ} (call : WriteCall rs ps ns nm options out code values out′) where
   abbrev o : Options
   o = optionsFrom options
 
@@ -309,7 +310,7 @@ module _ {rs ps ns nm out values out′ : List ℕ} {options code : ℕ} (call :
 -- ---- 7. WHAT `sparrowpivot_write` WROTE, `sparrowpivot_read` READS BACK. A call that wrote returned 0 and told version and size, `values[0]` and `values[1]`; a second call reads the first `size`
 -- bytes of its output, with stores that are large enough (`Roomy`)
 
-module _ {rs ps ns nm out values out′ : List ℕ} {options code : ℕ} (wrote : WriteCall rs ps ns nm options out code values out′) (returned : code ≡ 0)
+module _ {rs : List ℕ} {ps : Paths} {ns nm out values out′ : List ℕ} {options code : ℕ} (wrote : WriteCall rs ps ns nm options out code values out′) (returned : code ≡ 0)
     (few : length ns < 2 ^ 64) {records paths nodes values₁ rs′ ps′ ns′ : List ℕ} {code₁ : ℕ}
     (call : ReadCall (take (value values 1) out′) records paths nodes code₁ values₁ rs′ ps′ ns′)
     (slices : Slices (take (value values 1) out′) paths nodes) (roomy : Roomy sha1Kind rs ps ns (optionsFrom options) records paths nodes) where
@@ -336,10 +337,10 @@ module _ {rs ps ns nm out values out′ : List ℕ} {options code : ℕ} (wrote 
   module _ (fit : WritableTable rs ps) (i j : ℕ) (kept : getElem? (keptOf rs) j ≡ some i) where
     -- mode, stage and size; the flags that are kept; and the same path, which lies in both path stores
     pub record-reads-back : {code₂ code₃ : ℕ} {values₂ values₃ : List ℕ} → RecordCall rs ps i code₂ values₂
-        → RecordCall (recordsTold values₁ rs′) ps′ j code₃ values₃
+        → RecordCall (recordsTold values₁ rs′) (lyingIn ps′) j code₃ values₃
         → (start end : ℕ) × (path : List ℕ)
         × (values₃ ≡ value values₂ 0 ∷ keepFlags (value values₂ 1) ∷ value values₂ 2 ∷ start ∷ end ∷ 1 ∷ 1 ∷ value values₂ 7 ∷ [])
-        × Stands ps (value values₂ 3) (value values₂ 4) path × Stands ps′ start end path
+        × Stands (ps .store) (value values₂ 3) (value values₂ 4) path × Stands ps′ start end path
     record-reads-back b c = record-back wrote returned few (writable-ends rs ps fit) records paths nodes slices roomy fit i j kept call b c
 
     -- the eight other numbers

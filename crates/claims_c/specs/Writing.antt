@@ -8,6 +8,7 @@ use Rattle.laws.specs.Pick.{pick}
 use Rattle.refusal.specs.Refusal.{path-outside, short-output, too-large, not-proper}
 use Rattle.format.specs.Format.{depthLimit}
 use Rattle.kind.specs.Sha1.{sha1Kind}
+use Rattle.entry.specs.Paths.{Paths}
 use Rattle.write.specs.declared.Answer.{Answer}
 use Rattle.write.specs.declared.Answer.the-variants as answer
 use Rattle.write.specs.File.{Outcome, numberOf, carriedOf, writeAll}
@@ -57,7 +58,7 @@ one-of-five (answer.ShortOutput size) = inr (inr (inl refl))
 one-of-five answer.TooLarge = inr (inr (inr (inl refl)))
 one-of-five answer.NotProper = inr (inr (inr (inr refl)))
 
-module _ {rs ps ns nm out values out′ : List ℕ} {options code : ℕ} (call : WriteCall rs ps ns nm options out code values out′) where
+module _ {rs : List ℕ} {ps : Paths} {ns nm out values out′ : List ℕ} {options code : ℕ} (call : WriteCall rs ps ns nm options out code values out′) where
   abbrev writing : Outcome
   writing = writeAll sha1Kind depthLimit rs ps ns nm (optionsFrom options) out
 

@@ -12,6 +12,7 @@ use Rattle.wire.specs.Places.{fileAt}
 use Rattle.format.specs.Format.{depthLimit}
 use Rattle.sha1.specs.Sha1.{sha1}
 use Rattle.kind.specs.Kind.{Kind}
+use Rattle.entry.specs.Paths.{Paths, lyingIn}
 use Rattle.entry.specs.Layout.{recordSize}
 use Rattle.node.specs.Store.{nodesIn}
 use Rattle.extension.specs.EndOfIndexEntry.{offsetIn}
@@ -50,11 +51,11 @@ Reader = List ℕ → List ℕ → List ℕ → List ℕ → reading.Outcome
 
 -- of records, paths, nodes, names, what is asked for and the output: the answer, and what the output holds
 abbrev pub Writer : Type 0
-Writer = List ℕ → List ℕ → List ℕ → List ℕ → Options → List ℕ → writing.Outcome
+Writer = List ℕ → Paths → List ℕ → List ℕ → Options → List ℕ → writing.Outcome
 
 -- of records, paths, a path and a stage
 abbrev pub Lookup : Type 0
-Lookup = List ℕ → List ℕ → List ℕ → ℕ → Found
+Lookup = List ℕ → Paths → List ℕ → ℕ → Found
 
 -- a digest that is fed piece by piece, with states of any kind
 pub record Digester : Type 1 where
@@ -66,7 +67,7 @@ pub record Digester : Type 1 where
 -- something to write, what the writer answered for it, and the stores lent to the reader
 pub record Case : Type 0 where
   pub records : List ℕ
-  pub paths : List ℕ
+  pub paths : Paths
   pub nodes : List ℕ
   pub names : List ℕ
   pub options : Options
@@ -91,9 +92,9 @@ readAgain write read c = read (fileIn write c) (c .records′) (c .paths′) (c 
 
 pub record Finds (lookup : Lookup) : Type 0 where
   -- absent exactly when no record has that path and stage
-  pub absent-exactly : (rs ps : List ℕ) → StrictlySorted rs ps → (key : List ℕ) (stage : ℕ) → stage ≤ highestStage → ((k : ℕ) × (lookup rs ps key stage ≡ Absent k)) ↔ ((i : ℕ) → ¬ Has rs ps key stage i)
+  pub absent-exactly : (rs : List ℕ) (ps : Paths) → StrictlySorted rs ps → (key : List ℕ) (stage : ℕ) → stage ≤ highestStage → ((k : ℕ) × (lookup rs ps key stage ≡ Absent k)) ↔ ((i : ℕ) → ¬ Has rs ps key stage i)
   -- found i exactly when record i has them
-  pub found-exactly : (rs ps : List ℕ) → StrictlySorted rs ps → (key : List ℕ) (stage : ℕ) → stage ≤ highestStage → (i : ℕ) → ((k : ℕ) × (lookup rs ps key stage ≡ At i k)) ↔ Has rs ps key stage i
+  pub found-exactly : (rs : List ℕ) (ps : Paths) → StrictlySorted rs ps → (key : List ℕ) (stage : ℕ) → stage ≤ highestStage → (i : ℕ) → ((k : ℕ) × (lookup rs ps key stage ≡ At i k)) ↔ Has rs ps key stage i
 
 module _ (kind : Kind) where
   -- ---- DEMAND 3
@@ -126,34 +127,34 @@ module _ (kind : Kind) where
 
   pub record Answers (write : Writer) : Type 0 where
     -- it is done exactly if the paths that are written lie in their store, the node table is proper where TREE is to be written, the limits hold, and there is room
-    pub done-exactly : (rs ps ns nm : List ℕ) (o : Options) (out : List ℕ)
+    pub done-exactly : (rs : List ℕ) (ps : Paths) (ns nm : List ℕ) (o : Options) (out : List ℕ)
         → IsDone (write rs ps ns nm o out .answer) ↔ (MayBeWritten kind rs ps ns nm o × (fileSize (kind .id) rs ps ns nm o ≤ length out))
     -- and then it answers version and size
-    pub done-answers : (rs ps ns nm : List ℕ) (o : Options) (out : List ℕ) (version size : ℕ) → write rs ps ns nm o out .answer ≡ Done version size
+    pub done-answers : (rs : List ℕ) (ps : Paths) (ns nm : List ℕ) (o : Options) (out : List ℕ) (version size : ℕ) → write rs ps ns nm o out .answer ≡ Done version size
         → Version rs version × (size ≡ fileSize (kind .id) rs ps ns nm o)
     -- refusal 12 names i exactly when record i is the first that is written and has its path outside
-    pub refusal-12-exactly : (rs ps ns nm : List ℕ) (o : Options) (out : List ℕ) (i : ℕ) → (write rs ps ns nm o out .answer ≡ PathOutside i) ↔ FirstOutside rs ps i
+    pub refusal-12-exactly : (rs : List ℕ) (ps : Paths) (ns nm : List ℕ) (o : Options) (out : List ℕ) (i : ℕ) → (write rs ps ns nm o out .answer ≡ PathOutside i) ↔ FirstOutside rs ps i
     -- then 16, where TREE is to be written
-    pub refusal-16-exactly : (rs ps ns nm : List ℕ) (o : Options) (out : List ℕ)
+    pub refusal-16-exactly : (rs : List ℕ) (ps : Paths) (ns nm : List ℕ) (o : Options) (out : List ℕ)
         → (write rs ps ns nm o out .answer ≡ NotProper) ↔ (PathsInside rs ps × (treeAsked o ≡ true) × ¬ ProperTable depthLimit ns nm)
     -- then 15
-    pub refusal-15-exactly : (rs ps ns nm : List ℕ) (o : Options) (out : List ℕ)
+    pub refusal-15-exactly : (rs : List ℕ) (ps : Paths) (ns nm : List ℕ) (o : Options) (out : List ℕ)
         → (write rs ps ns nm o out .answer ≡ TooLarge) ↔ (PathsInside rs ps × ProperIfAsked ns nm o × OverTheLimits kind rs ps ns nm o)
     -- then 14, with the size that is needed
-    pub refusal-14-exactly : (rs ps ns nm : List ℕ) (o : Options) (out : List ℕ) (size : ℕ)
+    pub refusal-14-exactly : (rs : List ℕ) (ps : Paths) (ns nm : List ℕ) (o : Options) (out : List ℕ) (size : ℕ)
         → (write rs ps ns nm o out .answer ≡ ShortOutput size) ↔ (MayBeWritten kind rs ps ns nm o × (size ≡ fileSize (kind .id) rs ps ns nm o) × (length out < size))
 
   -- ---- DEMAND 2: what the writer leaves
 
   pub record WritesAsAsked (write : Writer) : Type 0 where
     -- the hash, TREE, `sdir` and EOIE stand exactly as asked for, and the entries are those of the records not marked REMOVE
-    pub as-asked : (rs ps ns nm : List ℕ) (o : Options) (out : List ℕ) (version size : ℕ) → write rs ps ns nm o out .answer ≡ Done version size → length ns < 2 ^ 64
+    pub as-asked : (rs : List ℕ) (ps : Paths) (ns nm : List ℕ) (o : Options) (out : List ℕ) (version size : ℕ) → write rs ps ns nm o out .answer ≡ Done version size → length ns < 2 ^ 64
         → AsAsked kind rs ps o version (take size (write rs ps ns nm o out .out))
     -- places beyond those used stay as they were
-    pub rest-as-it-was : (rs ps ns nm : List ℕ) (o : Options) (out : List ℕ) (version size : ℕ) → write rs ps ns nm o out .answer ≡ Done version size
+    pub rest-as-it-was : (rs : List ℕ) (ps : Paths) (ns nm : List ℕ) (o : Options) (out : List ℕ) (version size : ℕ) → write rs ps ns nm o out .answer ≡ Done version size
         → (drop size (write rs ps ns nm o out .out) ≡ drop size out) × (length (write rs ps ns nm o out .out) ≡ length out)
     -- and so do all where it is not done
-    pub refused-as-it-was : (rs ps ns nm : List ℕ) (o : Options) (out : List ℕ) → ¬ IsDone (write rs ps ns nm o out .answer) → write rs ps ns nm o out .out ≡ out
+    pub refused-as-it-was : (rs : List ℕ) (ps : Paths) (ns nm : List ℕ) (o : Options) (out : List ℕ) → ¬ IsDone (write rs ps ns nm o out .answer) → write rs ps ns nm o out .out ≡ out
 
   -- ---- DEMAND 2: read-back
 
@@ -184,7 +185,7 @@ module _ (kind : Kind) where
         ≡ Read (c .version) sparse (treeAsked (c .options)) (length (keptOf (c .records))) (length (pathsBytes (meaningsOf (kind .id) (c .records) (c .paths)))) (pick (treeAsked (c .options)) (nodesIn (c .nodes)) 0))
     -- record j shows every kept field, the kept flags and the path of the j-th record not marked REMOVE
     pub written-reads-back : (c : Case) → Done? write c → (j i : ℕ) → getElem? (keptOf (c .records)) j ≡ some i
-        → SameEntry (kind .id) (c .records) (c .paths) i (readAgain write read c .records) (readAgain write read c .paths) j
+        → SameEntry (kind .id) (c .records) (c .paths) i (readAgain write read c .records) (lyingIn (readAgain write read c .paths)) j
     -- the written tree reads back
     pub tree-reads-back : (c : Case) → Done? write c → treeAsked (c .options) ≡ true → HoldsTheTree write c (readAgain write read c .nodes)
     -- what is written is spelled by the grammar, and means the tables
@@ -206,8 +207,8 @@ module _ (kind : Kind) where
 -- ---- THE HALVING RULE: the number that lookup answers is the rule's own count, in any table
 
 pub record CountsTheSteps (lookup : Lookup) : Type 0 where
-  pub found : (rs ps key : List ℕ) (stage i k : ℕ) → lookup rs ps key stage ≡ At i k → k ≡ lookupSteps rs ps key stage
-  pub absent : (rs ps key : List ℕ) (stage k : ℕ) → lookup rs ps key stage ≡ Absent k → k ≡ lookupSteps rs ps key stage
+  pub found : (rs : List ℕ) (ps : Paths) (key : List ℕ) (stage i k : ℕ) → lookup rs ps key stage ≡ At i k → k ≡ lookupSteps rs ps key stage
+  pub absent : (rs : List ℕ) (ps : Paths) (key : List ℕ) (stage k : ℕ) → lookup rs ps key stage ≡ Absent k → k ≡ lookupSteps rs ps key stage
 
 -- ---- SHA-1's DEFINITION AFTER EACH PIECE
 

@@ -15,6 +15,7 @@ use Rattle.slices.specs.Laws.{same-equal}
 use Rattle.sha1.specs.Pieces as pieces
 use Rattle.sha1.specs.declared.Digest.{Digest}
 use Rattle.kind.specs.Sha1.{sha1Kind}
+use Rattle.entry.specs.Paths.{Paths}
 use Rattle.access.specs.Lookup.{lookupAt}
 use Rattle.access.specs.Finds.{Has, absent-then-none, found-then-has}
 use Rattle.access.specs.Steps.{found-counts-the-steps, absent-counts-the-steps}
@@ -135,7 +136,7 @@ a-at-2 = found-then-has table paths page-sorted (97 ∷ []) 2 (lit≤ tt) 1 1 pa
 no-a-at-1 : (i : ℕ) → ¬ Has table paths (97 ∷ []) 1 i
 no-a-at-1 = absent-then-none table paths page-sorted (97 ∷ []) 1 (lit≤ tt) 2 page-absent
 
-pub always-absent-fails : (lookup : Lookup) → ((rs ps key : List ℕ) (stage : ℕ) → (k : ℕ) × (lookup rs ps key stage ≡ Absent k)) → ¬ Finds lookup
+pub always-absent-fails : (lookup : Lookup) → ((rs : List ℕ) (ps : Paths) (key : List ℕ) (stage : ℕ) → (k : ℕ) × (lookup rs ps key stage ≡ Absent k)) → ¬ Finds lookup
 always-absent-fails lookup absent finds = finds .absent-exactly table paths page-sorted (97 ∷ []) 2 (lit≤ tt) .0 (absent table paths (97 ∷ []) 2) 1 a-at-2
 
 pub always-absent-fails-demand-2 : (write : Writer) (read : Reader) (k : ℕ) → ¬ Demand2 sha1Kind write read (λ rs ps key stage. Absent k)
@@ -145,8 +146,8 @@ always-absent-fails-demand-2 write read k demand = always-absent-fails (λ rs ps
 
 -- one number for every answer, though the lookup finds what it should
 pub constant-count-fails : (lookup : Lookup) (c : ℕ) → Finds lookup
-    → ((rs ps key : List ℕ) (stage i k : ℕ) → lookup rs ps key stage ≡ At i k → k ≡ c)
-    → ((rs ps key : List ℕ) (stage k : ℕ) → lookup rs ps key stage ≡ Absent k → k ≡ c) → ¬ CountsTheSteps lookup
+    → ((rs : List ℕ) (ps : Paths) (key : List ℕ) (stage i k : ℕ) → lookup rs ps key stage ≡ At i k → k ≡ c)
+    → ((rs : List ℕ) (ps : Paths) (key : List ℕ) (stage k : ℕ) → lookup rs ps key stage ≡ Absent k → k ≡ c) → ¬ CountsTheSteps lookup
 constant-count-fails lookup c finds found absent counts =
     let (k, e) = finds .found-exactly table paths page-sorted (97 ∷ []) 2 (lit≤ tt) 1 .1 a-at-2 in
     let (l, f) = finds .absent-exactly table paths page-sorted (97 ∷ []) 1 (lit≤ tt) .1 no-a-at-1 in

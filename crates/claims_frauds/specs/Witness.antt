@@ -15,6 +15,7 @@ use Rattle.format.specs.Format.{idSize, depthLimit}
 use Rattle.sha1.specs.Sha1.{rotl, ch, parity, maj, mixOf, constOf, zerosOf, padding, initial, wordsOf, nextWord, extend, schedule, turn, rounds, added, compress, hashBlocks, digestOf, sha1}
 use Rattle.kind.specs.Sha1.{sha1Kind}
 use Rattle.entry.specs.Mode.{keepMode}
+use Rattle.entry.specs.Paths.{Paths, lyingIn}
 use Rattle.entry.specs.Record.{recordsIn, recordOf, frontOf, restOf, fieldAt, liesInside, pathAt}
 use Rattle.node.specs.Store.{wordAt, isPart, partOf, nameInside, nameAt}
 use Rattle.siblings.specs.Siblings.{anyIn, twin, repeats, siblingsDiffer}
@@ -203,47 +204,51 @@ with-sdir = record { tree = false; cache = false; eoie = false; sparse = true; u
 abbrev pub root : List ℕ
 root = replicate 32 0 ++ (replicate 8 255 ++ replicate 32 0)
 
-no-record : PathsInside [] []
+-- no path is anywhere
+abbrev pub no-paths : Paths
+no-paths = lyingIn []
+
+no-record : PathsInside [] no-paths
 no-record i x = absurd (omega (arith, x .there))
 
-pub hash-may-be-written : MayBeWritten sha1Kind [] [] [] [] with-hash
+pub hash-may-be-written : MayBeWritten sha1Kind [] no-paths [] [] with-hash
 unfolding total
 hash-may-be-written = record { inside = no-record; proper = λ e. absurd (false≢true e); limits = record { records = lit≤ tt; bytes = lit≤ tt } }
 
-pub hash-size : fileSize idSize [] [] [] [] with-hash ≡ 32
+pub hash-size : fileSize idSize [] no-paths [] [] with-hash ≡ 32
 unfolding total
 hash-size = refl
 
-pub tree-may-be-written : MayBeWritten sha1Kind [] [] root [] with-tree
+pub tree-may-be-written : MayBeWritten sha1Kind [] no-paths root [] with-tree
 unfolding total nulIn nulAt beAt wordAt isPart partOf nameInside nameAt anyIn twin repeats siblingsDiffer parentFits countFits holdsNone nameFits climbs nodeFits childCount kidsFit allIn isProper digitsWithin
 tree-may-be-written = record { inside = no-record; proper = λ e. proper-exactly-in-words depthLimit root [] .0 refl; limits = record { records = lit≤ tt; bytes = lit≤ tt } }
 
-pub tree-size : fileSize idSize [] [] root [] with-tree ≡ 65
+pub tree-size : fileSize idSize [] no-paths root [] with-tree ≡ 65
 unfolding total beAt wordAt isPart partOf nameInside nameAt digitsWithin
 tree-size = refl
 
-pub sdir-may-be-written : MayBeWritten sha1Kind [] [] [] [] with-sdir
+pub sdir-may-be-written : MayBeWritten sha1Kind [] no-paths [] [] with-sdir
 unfolding total
 sdir-may-be-written = record { inside = no-record; proper = λ e. absurd (false≢true e); limits = record { records = lit≤ tt; bytes = lit≤ tt } }
 
-pub sdir-size : fileSize idSize [] [] [] [] with-sdir ≡ 40
+pub sdir-size : fileSize idSize [] no-paths [] [] with-sdir ≡ 40
 unfolding total
 sdir-size = refl
 
 -- the last two to a writer that is deaf to them
-pub treeless-may-be-written : MayBeWritten sha1Kind [] [] root [] (record { tree = false; cache = true; eoie = false; sparse = false; unhashed = true })
+pub treeless-may-be-written : MayBeWritten sha1Kind [] no-paths root [] (record { tree = false; cache = true; eoie = false; sparse = false; unhashed = true })
 unfolding total
 treeless-may-be-written = record { inside = no-record; proper = λ e. absurd (false≢true e); limits = record { records = lit≤ tt; bytes = lit≤ tt } }
 
-pub treeless-size : fileSize idSize [] [] root [] (record { tree = false; cache = true; eoie = false; sparse = false; unhashed = true }) ≡ 32
+pub treeless-size : fileSize idSize [] no-paths root [] (record { tree = false; cache = true; eoie = false; sparse = false; unhashed = true }) ≡ 32
 unfolding total
 treeless-size = refl
 
-pub markless-may-be-written : MayBeWritten sha1Kind [] [] [] [] plain
+pub markless-may-be-written : MayBeWritten sha1Kind [] no-paths [] [] plain
 unfolding total
 markless-may-be-written = record { inside = no-record; proper = λ e. absurd (false≢true e); limits = record { records = lit≤ tt; bytes = lit≤ tt } }
 
-pub markless-size : fileSize idSize [] [] [] [] plain ≡ 32
+pub markless-size : fileSize idSize [] no-paths [] [] plain ≡ 32
 unfolding total
 markless-size = refl
 

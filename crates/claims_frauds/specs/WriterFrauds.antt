@@ -13,6 +13,7 @@ use Rattle.format.specs.Format.{idSize}
 use Rattle.sha1.specs.Length.{length-sha1}
 use Rattle.sha1.specs.Sha1.{sha1}
 use Rattle.kind.specs.Sha1.{sha1Kind}
+use Rattle.entry.specs.Paths.{Paths}
 use Rattle.access.specs.Marked.{table, paths}
 use Rattle.grammar.specs.Number.{bigEndian, big-endian}
 use Rattle.grammar.specs.Entry.{Meaning, start, Entries}
@@ -35,14 +36,14 @@ use Rattle.claims_frauds.specs.Ours.{writer, writer-answers}
 use Rattle.claims_frauds.specs.Witness as witness
 
 -- a writer that is done with another size than 01's
-sized-otherwise-fails : (write : Writer) (read : Reader) (lookup : Lookup) (rs ps ns nm : List ℕ) (o : Options) (out : List ℕ) (version size : ℕ)
+sized-otherwise-fails : (write : Writer) (read : Reader) (lookup : Lookup) (rs : List ℕ) (ps : Paths) (ns nm : List ℕ) (o : Options) (out : List ℕ) (version size : ℕ)
     → write rs ps ns nm o out .answer ≡ Done version size → ¬ (size ≡ fileSize idSize rs ps ns nm o) → ¬ Demand2 sha1Kind write read lookup
 sized-otherwise-fails write read lookup rs ps ns nm o out version size e other demand = other (demand .answers .done-answers rs ps ns nm o out version size e .1)
 
 -- ---- A WRITER THAT REFUSES ALL fails demand 2
 
 pub refuses-to-write-fails : (write : Writer) (read : Reader) (lookup : Lookup)
-    → ((rs ps ns nm : List ℕ) (o : Options) (out : List ℕ) → ¬ IsDone (write rs ps ns nm o out .answer)) → ¬ Demand2 sha1Kind write read lookup
+    → ((rs : List ℕ) (ps : Paths) (ns nm : List ℕ) (o : Options) (out : List ℕ) → ¬ IsDone (write rs ps ns nm o out .answer)) → ¬ Demand2 sha1Kind write read lookup
 refuses-to-write-fails write read lookup never demand =
     never table paths [] [] witness.plain (replicate 232 0)
     (demand .answers .done-exactly table paths [] [] witness.plain (replicate 232 0) .1 (witness.may-be-written, witness.room-for-it))
@@ -55,7 +56,7 @@ refuses-to-write-with-fails a refusal read lookup = refuses-to-write-fails (λ r
 
 abbrev pub EndsInZeros : Writer → Type 0
 EndsInZeros write =
-    (rs ps ns nm : List ℕ) (o : Options) (out : List ℕ) (version size : ℕ) → write rs ps ns nm o out .answer ≡ Done version size → length ns < 2 ^ 64
+    (rs : List ℕ) (ps : Paths) (ns nm : List ℕ) (o : Options) (out : List ℕ) (version size : ℕ) → write rs ps ns nm o out .answer ≡ Done version size → length ns < 2 ^ 64
     → drop (size - idSize) (take size (write rs ps ns nm o out .out)) ≡ replicate idSize 0
 
 -- 32 bits spell a small number in one way
@@ -83,7 +84,7 @@ version-2 : {version : ℕ} → Version [] version → version ≡ 2
 version-2 (three h e) = absurd (omega arith)
 version-2 (two r) = refl
 
-module _ {version : ℕ} {s : List ℕ} (x : AsAsked sha1Kind [] [] witness.with-hash version s) (v : version ≡ 2) where
+module _ {version : ℕ} {s : List ℕ} (x : AsAsked sha1Kind [] witness.no-paths witness.with-hash version s) (v : version ≡ 2) where
   no-extension : x .extensions ≡ []
   no-extension = by (x .tree-part) (x .sparse-part) (x .eoie-part) (x .extensions-say)
     where
@@ -120,13 +121,13 @@ pub zero-trailer-fails : (write : Writer) (read : Reader) (lookup : Lookup) → 
 zero-trailer-fails write read lookup zeros demand =
     let o : Options = witness.with-hash in
     let out : List ℕ = replicate 32 0 in
-    let enough : fileSize idSize [] [] [] [] o ≤ 32 = omega (arith, witness.hash-size) in
-    let (version, size, e) = demand .answers .done-exactly [] [] [] [] o out .1 (witness.hash-may-be-written, enough) in
-    let (v, n) = demand .answers .done-answers [] [] [] [] o out version size e in
-    let x = demand .writes .as-asked [] [] [] [] o out version size e (lit< tt) in
+    let enough : fileSize idSize [] witness.no-paths [] [] o ≤ 32 = omega (arith, witness.hash-size) in
+    let (version, size, e) = demand .answers .done-exactly [] witness.no-paths [] [] o out .1 (witness.hash-may-be-written, enough) in
+    let (v, n) = demand .answers .done-answers [] witness.no-paths [] [] o out version size e in
+    let x = demand .writes .as-asked [] witness.no-paths [] [] o out version size e (lit< tt) in
     let f = the-file x (version-2 v) in
     let k : size - idSize ≡ 12 = omega (arith, witness.hash-size) in
-    witness.empty-hash (sym (drop-at emptyHeader (sha1 emptyHeader) 12 refl) ∙ (λ j. drop (sym k j) (sym f j)) ∙ zeros [] [] [] [] o out version size e (lit< tt))
+    witness.empty-hash (sym (drop-at emptyHeader (sha1 emptyHeader) 12 refl) ∙ (λ j. drop (sym k j) (sym f j)) ∙ zeros [] witness.no-paths [] [] o out version size e (lit< tt))
 
 -- ours, which takes every file for one without a hash
 abbrev pub hashless : Options → Options
@@ -170,14 +171,14 @@ pub record HasExtensions (s : List ℕ) (es : List Ext) : Type 0 where
 
 abbrev pub LeavesOut : List ℕ → Writer → Type 0
 LeavesOut signature write =
-    (rs ps ns nm : List ℕ) (o : Options) (out : List ℕ) (version size : ℕ) → write rs ps ns nm o out .answer ≡ Done version size
+    (rs : List ℕ) (ps : Paths) (ns nm : List ℕ) (o : Options) (out : List ℕ) (version size : ℕ) → write rs ps ns nm o out .answer ≡ Done version size
     → (es : List Ext) → HasExtensions (take size (write rs ps ns nm o out .out)) es → NoneSigned signature es
 
 -- the extensions of a file that is as asked for
-abbrev extensionsIn : {rs ps : List ℕ} {o : Options} {version : ℕ} {s : List ℕ} → AsAsked sha1Kind rs ps o version s → List Ext
+abbrev extensionsIn : {rs : List ℕ} {ps : Paths} {o : Options} {version : ℕ} {s : List ℕ} → AsAsked sha1Kind rs ps o version s → List Ext
 extensionsIn x = x .tree ++ (x .sparse ++ x .eoie)
 
-has-extensions : {rs ps : List ℕ} {o : Options} {version : ℕ} {s : List ℕ} (x : AsAsked sha1Kind rs ps o version s) → PathsEnd rs ps → HasExtensions s (extensionsIn x)
+has-extensions : {rs : List ℕ} {ps : Paths} {o : Options} {version : ℕ} {s : List ℕ} (x : AsAsked sha1Kind rs ps o version s) → PathsEnd rs ps → HasExtensions s (extensionsIn x)
 has-extensions {rs} {ps} x ends =
     record {
       header = x .header;
@@ -206,17 +207,17 @@ none-behind signature (e ∷ es) fs (another d x) = none-behind signature es fs 
 not-first : {signature body : List ℕ} {es : List Ext} → NoneSigned signature (ext signature body ∷ es) → ⊥
 not-first (another d x) = d refl
 
-no-path : PathsEnd [] []
+no-path : PathsEnd [] witness.no-paths
 no-path i h stays = absurd (omega arith)
 
 pub tree-left-out-fails : (write : Writer) (read : Reader) (lookup : Lookup) → LeavesOut TREE write → ¬ Demand2 sha1Kind write read lookup
 tree-left-out-fails write read lookup left demand =
     let o : Options = witness.with-tree in
     let out : List ℕ = replicate 65 0 in
-    let enough : fileSize idSize [] [] witness.root [] o ≤ 65 = omega (arith, witness.tree-size) in
-    let (version, size, e) = demand .answers .done-exactly [] [] witness.root [] o out .1 (witness.tree-may-be-written, enough) in
-    let x = demand .writes .as-asked [] [] witness.root [] o out version size e (lit< tt) in
-    by (x .sparse ++ x .eoie) (x .tree-part) (left [] [] witness.root [] o out version size e (extensionsIn x) (has-extensions x no-path))
+    let enough : fileSize idSize [] witness.no-paths witness.root [] o ≤ 65 = omega (arith, witness.tree-size) in
+    let (version, size, e) = demand .answers .done-exactly [] witness.no-paths witness.root [] o out .1 (witness.tree-may-be-written, enough) in
+    let x = demand .writes .as-asked [] witness.no-paths witness.root [] o out version size e (lit< tt) in
+    by (x .sparse ++ x .eoie) (x .tree-part) (left [] witness.no-paths witness.root [] o out version size e (extensionsIn x) (has-extensions x no-path))
   where
     by : {place : ℕ} {t : List Ext} (more : List Ext) → TreePart sha1Kind witness.with-tree place t → NoneSigned TREE (t ++ more) → ⊥
     by more (tree-asked e y) n = not-first n
@@ -226,10 +227,10 @@ pub sdir-left-out-fails : (write : Writer) (read : Reader) (lookup : Lookup) →
 sdir-left-out-fails write read lookup left demand =
     let o : Options = witness.with-sdir in
     let out : List ℕ = replicate 40 0 in
-    let enough : fileSize idSize [] [] [] [] o ≤ 40 = omega (arith, witness.sdir-size) in
-    let (version, size, e) = demand .answers .done-exactly [] [] [] [] o out .1 (witness.sdir-may-be-written, enough) in
-    let x = demand .writes .as-asked [] [] [] [] o out version size e (lit< tt) in
-    by (x .eoie) (x .sparse-part) (none-behind sdir (x .tree) (x .sparse ++ x .eoie) (left [] [] [] [] o out version size e (extensionsIn x) (has-extensions x no-path)))
+    let enough : fileSize idSize [] witness.no-paths [] [] o ≤ 40 = omega (arith, witness.sdir-size) in
+    let (version, size, e) = demand .answers .done-exactly [] witness.no-paths [] [] o out .1 (witness.sdir-may-be-written, enough) in
+    let x = demand .writes .as-asked [] witness.no-paths [] [] o out version size e (lit< tt) in
+    by (x .eoie) (x .sparse-part) (none-behind sdir (x .tree) (x .sparse ++ x .eoie) (left [] witness.no-paths [] [] o out version size e (extensionsIn x) (has-extensions x no-path)))
   where
     by : {m : List Ext} (more : List Ext) → SparsePart sha1Kind witness.with-sdir m → NoneSigned sdir (m ++ more) → ⊥
     by more (sparse-marked e) n = not-first n
@@ -261,18 +262,18 @@ pub treeless-fails : (read : Reader) (lookup : Lookup) → ¬ Demand2 sha1Kind (
 treeless-fails read lookup =
     let o : Options = treeless witness.with-tree in
     let out : List ℕ = replicate 65 0 in
-    let enough : fileSize idSize [] [] witness.root [] o ≤ 65 = omega (arith, witness.treeless-size) in
-    let (version, size, e) = writer-answers .done-exactly [] [] witness.root [] o out .1 (witness.treeless-may-be-written, enough) in
-    let n = writer-answers .done-answers [] [] witness.root [] o out version size e .1 in
-    sized-otherwise-fails (λ rs ps ns nm o out. writer rs ps ns nm (treeless o) out) read lookup [] [] witness.root [] witness.with-tree out version size e
+    let enough : fileSize idSize [] witness.no-paths witness.root [] o ≤ 65 = omega (arith, witness.treeless-size) in
+    let (version, size, e) = writer-answers .done-exactly [] witness.no-paths witness.root [] o out .1 (witness.treeless-may-be-written, enough) in
+    let n = writer-answers .done-answers [] witness.no-paths witness.root [] o out version size e .1 in
+    sized-otherwise-fails (λ rs ps ns nm o out. writer rs ps ns nm (treeless o) out) read lookup [] witness.no-paths witness.root [] witness.with-tree out version size e
     (λ q. omega (arith, witness.tree-size, witness.treeless-size))
 
 pub markless-fails : (read : Reader) (lookup : Lookup) → ¬ Demand2 sha1Kind (λ rs ps ns nm o out. writer rs ps ns nm (markless o) out) read lookup
 markless-fails read lookup =
     let o : Options = markless witness.with-sdir in
     let out : List ℕ = replicate 40 0 in
-    let enough : fileSize idSize [] [] [] [] o ≤ 40 = omega (arith, witness.markless-size) in
-    let (version, size, e) = writer-answers .done-exactly [] [] [] [] o out .1 (witness.markless-may-be-written, enough) in
-    let n = writer-answers .done-answers [] [] [] [] o out version size e .1 in
-    sized-otherwise-fails (λ rs ps ns nm o out. writer rs ps ns nm (markless o) out) read lookup [] [] [] [] witness.with-sdir out version size e
+    let enough : fileSize idSize [] witness.no-paths [] [] o ≤ 40 = omega (arith, witness.markless-size) in
+    let (version, size, e) = writer-answers .done-exactly [] witness.no-paths [] [] o out .1 (witness.markless-may-be-written, enough) in
+    let n = writer-answers .done-answers [] witness.no-paths [] [] o out version size e .1 in
+    sized-otherwise-fails (λ rs ps ns nm o out. writer rs ps ns nm (markless o) out) read lookup [] witness.no-paths [] [] witness.with-sdir out version size e
     (λ q. omega (arith, witness.sdir-size, witness.markless-size))

@@ -9,6 +9,7 @@ use lib.ListN.{length, drop}
 use Rattle.laws.specs.Pick.{pick}
 use Rattle.format.specs.Format.{depthLimit, idSize}
 use Rattle.kind.specs.Sha1.{sha1Kind}
+use Rattle.entry.specs.Paths.{Paths}
 use Rattle.entry.specs.Record.{recordsIn}
 use Rattle.access.proofs as access
 use Rattle.grammar.specs.Entry.{Meaning, start, Entries}
@@ -138,7 +139,7 @@ after-13 κs a w w′ = refl
 
 -- ---- THE WRITER, 12 and 14 to 16: the output is as it was
 
-module _ (rs ps ns nm : List ℕ) (o : Options) (out : List ℕ) where
+module _ (rs : List ℕ) (ps : Paths) (ns nm : List ℕ) (o : Options) (out : List ℕ) where
   -- what writing comes to: it is done, or the output is as it was
   data Kept : write.Outcome → Type 0 where
     done : (version size : ℕ) (out′ : List ℕ) → Kept (write.outcome (Done version size) out′)
