@@ -160,13 +160,8 @@ fn fill_end(p: Plan, offset: u32, out: &mut [u8], at: usize)
 fn fill(records: &[u8], paths: &[u8], nodes: &[u8], names: &[u8], p: Plan, out: &mut [u8])
     requires { ⌜ p .heads .size ≡ length (treeOf idSize depthLimit (now nodes) (now names) (p .heads .tree)) ⌝ }
     requires { ⌜ offsetOf idSize (now records) (lyingIn (now paths)) ≤ most ⌝ }
-    requires { ⌜ length (planBody idSize depthLimit (now records) (lyingIn (now paths)) (now nodes) (now names) p) + endSize idSize (p .eoie) ≤ length (now out) 
-            requires { ⌜ length (planBody idSize depthLimit (now records) (lyingIn (now paths)) (now nodes) (now names) p) + endSize idSize
-            (p .eoie) ≤ length (now out) ⌝
-            requires { ⌜ length (planBody idSize depthLimit (now records) (lyingIn (now paths)) (now nodes) (now names) p) + endSize idSize
-            (p .eoie) ≤ length (now out) ⌝ 
-            requires { ⌜ length (planBody idSize depthLimit (now records) (lyingIn (now paths)) (now nodes) (now names) p) + endSize idSize
-            (p .eoie) ≤ length (now out) ⌝ }
+    requires { ⌜ length (planBody idSize depthLimit (now records) (lyingIn (now paths)) (now nodes) (now names) p) + endSize idSize (p .eoie)
+        ≤ length (now out) ⌝ }
     ensures { λ _. ⌜ now (out .exit)
         ≡ put (now (out .entry)) 0
             (planFile sha1Kind depthLimit (now (records .entry)) (lyingIn (now (paths .entry))) (now (nodes .entry)) (now (names .entry)) p) ⌝ }
