@@ -164,7 +164,7 @@ fn fill(records: &[u8], paths: &[u8], nodes: &[u8], names: &[u8], p: Plan, out: 
         ≤ length (now out) ⌝ }
     ensures { λ _. ⌜ now (out .exit)
         ≡ put (now (out .entry)) 0
-            (planFile sha1Kind depthLimit (now (records .entry)) (lyingIn (now (paths .entry))) (now (nodes .entry)) (now (names .entry)) p) ⌝ }
+        (planFile sha1Kind depthLimit (now (records .entry)) (lyingIn (now (paths .entry))) (now (nodes .entry)) (now (names .entry)) p) ⌝ }
 {
     let offset = fill_front(records, paths, p.version, p.count, out);
     let end = fill_extensions(nodes, names, p.heads, out, offset);
@@ -218,7 +218,7 @@ fn write_sized(
     requires { ⌜ Counted idSize (now records) (lyingIn (now paths)) (t .version) (t .count) (t .size) ⌝ }
     ensures { λ r. ⌜ outcome r (now (out .exit))
         ≡ writeTable sha1Kind depthLimit (now (records .entry)) (lyingIn (now (paths .entry))) (now (nodes .entry)) (now (names .entry)) o
-            (now (out .entry)) ⌝ }
+        (now (out .entry)) ⌝ }
 {
     let n = entry::records_in(records);
     let writes = writes_tree(o);
