@@ -2,3 +2,11 @@
 -- together they answer whether siblings differ. Assumes nothing.
 pub mod Runs
 pub mod Enough
+pub mod Order
+pub mod Linked
+pub mod Merge
+pub mod Sorting
+pub mod Walked
+pub mod Folder
+pub mod Listing
+pub mod Answer
