@@ -2,18 +2,18 @@
 use mathlib.Core.Bool.{Bool, true, false}
 use mathlib.Core.Path.{_≡_, refl, sym, ap, _∙_, subst}
 use mathlib.Core.Logic.{_⊎_, inl, inr, ⊎-elim}
-use mathlib.Core.List.{List, [], _++_, append-nil}
+use mathlib.Core.List.{List, [], append-nil}
 use Prim.Native.Nat.{ℕ, _+_, _^_, _≤_, _<_}
 use native.Mathlib.Omega.{arith}
 use lib.ListN.{length}
-use Rattle.laws.specs.Tests.{Less, less, not-less, less?, Same, same, differs, same?, lt-or-ge, tri}
+use Rattle.laws.specs.Tests.{Same, same, differs, same?, lt-or-ge, tri}
 use Rattle.laws.specs.Order.{Before, irreflexive}
-use Rattle.node.specs.Store.{nodesIn, parentAt, nameAt}
+use Rattle.node.specs.Store.{parentAt, nameAt}
 use Rattle.node.specs.Parents.{Alike, alike-on, Bytes, store-same}
 use Rattle.siblings.specs.Siblings.{siblingsDiffer}
 use Rattle.siblings.specs.InOrder.{Distinct, distinct-differ, differ-distinct}
 use Rattle.link_sort.specs.declared.Strung.{Strung}
-use Rattle.link_sort.specs.Runs.{Out, levels, noKids, strungFrom, strungKids, sortRun, released, begun, walkRun, sortedDiffer}
+use Rattle.link_sort.specs.Runs.{Out, levels, noKids, strungKids, sortRun, released, begun, sortedDiffer}
 use Rattle.link_sort.specs.Enough.{strung-few}
 use Rattle.link_sort.specs.Linked.{Mem, Rising, Chain, Spells, spells-on, rising-pair}
 use Rattle.link_sort.specs.Sorting.{Sorts, room, sort-good}

@@ -1,13 +1,13 @@
 -- A folder in a store that the reader fills (01, Extensions: "Nodes go to a lent store in file order"): node `me`, with what is below it up to `used` in walk order, and
 -- the last of its children. One subtree more keeps it so. Assumes nothing.
-use mathlib.Core.Path.{_≡_, refl, sym, subst, _∙_}
+use mathlib.Core.Path.{_≡_, refl, sym, subst}
 use mathlib.Core.Logic.{_⊎_, inl, inr, ⊎-elim}
 use mathlib.Core.List.{List}
 use Prim.Native.Nat.{ℕ, _+_, _-_, _≤_, _<_}
 use native.Mathlib.Omega.{arith}
 use Rattle.laws.specs.Tests.{tri}
 use Rattle.node.specs.Store.{nodesIn, parentAt}
-use Rattle.walk_order.specs.Below.{Above, above-low, above-kept, Below, parent-before, all-below}
+use Rattle.walk_order.specs.Below.{Above, above-kept, Below, parent-before, all-below}
 
 -- `last` is the last child, or `me` where there is none
 pub record Folder (ns : List ℕ) (me used last : ℕ) : Type 0 where

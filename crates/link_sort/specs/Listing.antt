@@ -3,12 +3,12 @@ use mathlib.Core.Bool.{Bool}
 use mathlib.Core.Path.{_≡_, refl, sym, subst, _∙_}
 use mathlib.Core.Logic.{_⊎_, inl, inr, ⊎-elim}
 use mathlib.Core.List.{List, [], _∷_}
-use Prim.Native.Nat.{ℕ, zero, suc, _+_, _-_, _^_, _≤_, _<_}
+use Prim.Native.Nat.{ℕ, zero, suc, _-_, _^_, _≤_, _<_}
 use native.Mathlib.Omega.{arith}
 use lib.ListN.{length}
 use Rattle.laws.specs.Pick.{pick}
 use Rattle.laws.specs.Tests.{Less, less, not-less, less?, lt-or-ge, tri}
-use Rattle.node.specs.Store.{nodesIn, parentAt, withParent}
+use Rattle.node.specs.Store.{parentAt, withParent}
 use Rattle.node.specs.Parents.{parent-other, Alike, alike-refl, alike-on, with-alike}
 use Rattle.walk_order.specs.Walk.{kidAbove}
 use Rattle.walk_order.specs.Below.{all-below}

@@ -13,7 +13,7 @@ use Rattle.link_sort.specs.declared.Runs.{Runs}
 use Rattle.laws.specs.Pick.{pick}
 use Rattle.laws.specs.Order.{compared}
 use Rattle.access.specs.Order.{orderOf}
-use Rattle.node.specs.Store.{nodesIn, parentAt, nameAt, withParent}
+use Rattle.node.specs.Store.{nodesIn, parentAt, withParent}
 use Rattle.node.specs.Parents.{parent-other, Alike, alike-refl, alike-on, with-alike}
 use Rattle.link_sort.specs.Runs.{opposite, foremost, isBefore, takesLeft, taken, turnOf, mergeRun}
 use Rattle.link_sort.specs.Order.{Fore, fore-not, fore-on, Tested, first, second, tested}

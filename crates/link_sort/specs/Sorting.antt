@@ -1,11 +1,10 @@
 -- The sort of the first nodes of a list: they are a list in order, the list goes on behind them front it did, and no other parent changes. Assumes nothing.
-use mathlib.Core.Bool.{Bool, true, false}
+use mathlib.Core.Bool.{Bool}
 use mathlib.Core.Path.{_≡_, refl, sym, ap, _∙_, subst}
-use mathlib.Core.Logic.{inl, inr, ⊎-elim}
+use mathlib.Core.Logic.{⊎-elim}
 use mathlib.Core.List.{List, [], _∷_, _++_, append-assoc}
 use Prim.Native.Nat.{ℕ, zero, suc, _+_, _*_, _-_, _/_, _≤_, _<_}
 use native.Mathlib.Omega.{arith}
-use lib.Dec.{ltb}
 use lib.ListN.{length, take, drop, length-append, length-drop, take-append-drop}
 use lib.Seq.{length-take-le}
 use Rattle.laws.specs.Pick.{pick}
@@ -15,7 +14,7 @@ use Rattle.node.specs.Parents.{Alike, alike-refl, alike-on}
 use Rattle.link_sort.specs.declared.Runs.{Runs}
 use Rattle.link_sort.specs.Runs.{Out, mergeRun, loneOf, opposite, bothOf, joined, halves, sortRun}
 use Rattle.link_sort.specs.Order.{Fore, turned}
-use Rattle.link_sort.specs.Linked.{Mem, here, there, Rising, done, more, Chain, end, link, no-mem, Spells, spells-on, Opened, opened, chain-kept, rising-as, mem-left, mem-right, mem-cases, rising-left, rising-right, rising-across}
+use Rattle.link_sort.specs.Linked.{Mem, Rising, done, more, Chain, end, link, no-mem, Spells, spells-on, Opened, opened, chain-kept, rising-as, mem-left, mem-right, mem-cases, rising-right, rising-across}
 use Rattle.link_sort.specs.Merge.{In, in-left, in-right, in-out, Held, Merged, merge-good}
 
 -- the nodes `ids`, behind which a list goes on with `rest`, are a list in order, and the store is s but for their parents

@@ -12,7 +12,7 @@ use Rattle.link_sort.specs.declared.Walk.{Walk}
 use Rattle.laws.specs.Tests.{Less, less, not-less, less?}
 use Rattle.laws.specs.Order.{Before, irreflexive, transitive, compared, Comparison, Compares, is-below, is-equal, is-beyond, compares}
 use Rattle.access.specs.Order.{orderOf}
-use Rattle.node.specs.Store.{nodesIn, parentAt, nameAt, withParent}
+use Rattle.node.specs.Store.{nodesIn, parentAt, withParent}
 use Rattle.node.specs.Parents.{parent-same, parent-other, Alike, alike-refl, alike-on, with-alike}
 use Rattle.link_sort.specs.Runs.{unlessEqual, stillOf, stepOf, walkRun}
 use Rattle.link_sort.specs.Order.{Fore, fore-not}
