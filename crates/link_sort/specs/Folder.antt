@@ -1,5 +1,5 @@
--- A folder in a store that the reader fills (01, Extensions: "Nodes go to a lent store in file order"): node `me`, with what is below it up to `used` in walk order, and
--- the last of its children. One subtree more keeps it so. Assumes nothing.
+-- A folder in a store that the reader fills (01, Extensions: "Nodes go to a lent store in file order"): node `me`, with what is below it up to `used` in walk
+-- order, and the last of its children. One subtree more keeps it so. Assumes nothing.
 use mathlib.Core.Path.{_≡_, refl, sym, subst}
 use mathlib.Core.Logic.{_⊎_, inl, inr, ⊎-elim}
 use mathlib.Core.List.{List}

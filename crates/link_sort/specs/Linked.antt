@@ -1,10 +1,10 @@
 -- HOW A LIST IN A STORE IS DESCRIBED. `Chain s f ids`: the list that starts at node f in the store s has the nodes `ids`, in this order. The parent of each names
 -- the next; that of the last is of no account, since the code counts its lists. So there is no end mark, and a list of no nodes may start anywhere.
--- WHICH LAWS CARRY THE PROOF. A chain depends on the parents of its own nodes only (`chain-kept`). A parent that is set, of a node x, therefore keeps every list that
--- x is not in (`other-kept`), and puts x in front of one (`in-front`). That x is in no other list comes from the order: all lists are in a strict order of nodes
--- (`Rising`), which nothing stands in to itself. So the merge (Merge) needs no parts of lists: it takes the less of two first nodes and puts it in front of those that
--- were taken, which are in the opposite order; the sort (Sorting) merges two parts of a list; the walk (Walked) takes each node for the last time, gives it its
--- parent back, and sees two equal names side by side. Assumes nothing.
+-- WHICH LAWS CARRY THE PROOF. A chain depends on the parents of its own nodes only (`chain-kept`). A parent that is set, of a node x, therefore keeps every list
+-- that x is not in (`other-kept`), and puts x in front of one (`in-front`). That x is in no other list comes from the order: all lists are in a strict order of
+-- nodes (`Rising`), which nothing stands in to itself. So the merge (Merge) needs no parts of lists: it takes the less of two first nodes and puts it in front of
+-- those that were taken, which are in the opposite order; the sort (Sorting) merges two parts of a list; the walk (Walked) takes each node for the last time,
+-- gives it its parent back, and sees two equal names side by side. Assumes nothing.
 use mathlib.Core.Path.{_≡_, refl, sym, _∙_, subst}
 use mathlib.Core.Logic.{_⊎_, inl, inr, ⊎-elim}
 use mathlib.Core.List.{List, [], _∷_, _++_}

@@ -1,4 +1,5 @@
--- The order of nodes: by name, and by number where the names are equal, rising or falling. A strict order, so that a list in it holds no node twice. Assumes nothing.
+-- The order of nodes: by name, and by number where the names are equal, rising or falling. A strict order, so that a list in it holds no node twice. Assumes
+-- nothing.
 use mathlib.Core.Bool.{Bool, true, false}
 use mathlib.Core.Path.{_≡_, sym, subst, _∙_}
 use mathlib.Core.Logic.{_⊎_, inl, inr, ⊎-elim}

@@ -1,4 +1,5 @@
--- The walk along a list in order: each node has `me` for its parent again, no other parent changes, and two nodes with one name are seen side by side. Assumes nothing.
+-- The walk along a list in order: each node has `me` for its parent again, no other parent changes, and two nodes with one name are seen side by side. Assumes
+-- nothing.
 use mathlib.Core.Bool.{Bool, true, false}
 use mathlib.Core.Path.{_≡_, refl, sym, ap, _∙_, subst}
 use mathlib.Core.Logic.{inl, inr, ⊎-elim}

@@ -1,7 +1,8 @@
-// Whether the names of a node's children differ, where they come in no order that is known: in time that grows with how many they are times its logarithm, and without
-// further memory. When a node's last subtree is done, its children's parents all hold its number, and nobody reads them. They carry the links of a list that is strung
-// by number, from the last child backwards, and sorted by name in halves; then a walk along the list sees equal names side by side and puts the parents back. Lists are
-// counted, so that they need no end mark. A merge takes the lesser of two first nodes and puts it in front of those that were taken, so its result goes the other way.
+// Whether the names of a node's children differ, where they come in no order that is known: in time that grows with how many they are times its logarithm, and
+// without further memory. When a node's last subtree is done, its children's parents all hold its number, and nobody reads them. They carry the links of a list
+// that is strung by number, from the last child backwards, and sorted by name in halves; then a walk along the list sees equal names side by side and puts the
+// parents back. Lists are counted, so that they need no end mark. A merge takes the lesser of two first nodes and puts it in front of those that were taken, so
+// its result goes the other way.
 ghost use mathlib.Core.Path.{_≡_};
 ghost use Prim.Native.Nat.{_-_};
 ghost use Rattle.link_sort.specs.Runs.{opposite, isBefore, takesLeft, turnOf, mergeRun, loneOf, sortRun, stillOf, stepOf, begun, walkRun, strungKids, sortedDiffer};

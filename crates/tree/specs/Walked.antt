@@ -1,4 +1,5 @@
--- The reader stores nodes in walk order: what is below a node stands right behind it, up to the nodes used when it is done. By induction on the depth. Assumes nothing.
+-- The reader stores nodes in walk order: what is below a node stands right behind it, up to the nodes used when it is done. By induction on the depth. Assumes
+-- nothing.
 use mathlib.Core.Bool.{Bool}
 use mathlib.Core.Path.{_≡_, refl, sym, ap, subst, _∙_}
 use mathlib.Core.List.{List}

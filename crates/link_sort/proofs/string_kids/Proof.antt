@@ -1,4 +1,5 @@
--- `link_sort::string_kids` meets its contract. The invariant: what is left to string gives the whole list, and the children are no more than the nodes. Assumes nothing.
+-- `link_sort::string_kids` meets its contract. The invariant: what is left to string gives the whole list, and the children are no more than the nodes. Assumes
+-- nothing.
 use mathlib.Core.Path.{_≡_}
 use Prim.Native.Nat.{_+_, _≤_}
 use lib.ListN.{length}
