@@ -33,6 +33,7 @@
     )
 )]
 
+mod by_name;
 mod declarations;
 mod entry;
 mod error;
