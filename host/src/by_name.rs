@@ -24,8 +24,8 @@ struct Folder<'a> {
     next: usize,
 }
 
-/// The same tree in that order. A table that stands so already is handed back, and so is one in which a parent is not an
-/// earlier node. Whatever else the library asks of a table holds of the one if it holds of the other.
+/// The same tree in that order. A table that stands so already is handed back, and so is one in which a parent is not
+/// an earlier node. Whatever else the library asks of a table holds of the one if it holds of the other.
 pub(crate) fn by_name<'a>(nodes: &'a [u8], names: &[u8]) -> Result<Cow<'a, [u8]>, Error> {
     let Some(mut folders) = folders(nodes, names)? else { return Ok(Cow::Borrowed(nodes)) };
     place(&mut folders)?;
