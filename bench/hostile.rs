@@ -28,8 +28,10 @@ const LONG_SQUARE: usize = 100;
 const LONG_PATHS: usize = 50_000;
 const MANY: usize = 1_000_000;
 
-/// How often a call is timed at most, how long all the calls of a row may take before it is not timed once more, and how often a ratio above its limit is taken.
-const RUNS: usize = 5;
+/// How often a call is timed, at least (the first makes the machine find its memory) and at most; how long all the calls of a row may take before it is not timed once
+/// more; and how often a ratio above its limit is taken.
+const FEWEST_RUNS: usize = 2;
+const RUNS: usize = 25;
 const ENOUGH: f64 = 1.0;
 const TURNS: usize = 3;
 
@@ -313,10 +315,10 @@ fn extension_rows() -> Vec<Row> {
 /// The least time that a run takes.
 fn best(mut run: Run) -> f64 {
     let (mut least, mut spent) = (f64::MAX, 0.0);
-    for _ in 0..RUNS {
+    for turn in 1..=RUNS {
         let time = seconds(&mut run);
         (least, spent) = (least.min(time), spent + time);
-        if spent > ENOUGH {
+        if spent > ENOUGH && turn >= FEWEST_RUNS {
             break;
         }
     }
