@@ -21,9 +21,9 @@ const MOST_DEEPER: f64 = 3.0;
 
 /// The sizes n: of a folder whose siblings stand in no order, and of one that is known to cost the square; the same of names of 4,000 bytes; of paths that have as many
 /// bytes in common; of all else.
-const NO_ORDER: usize = 4_000;
+const NO_ORDER: usize = 1_000_000;
 const SQUARE: usize = 2_000;
-const LONG_NAMES: usize = 400;
+const LONG_NAMES: usize = 8_000;
 const LONG_SQUARE: usize = 100;
 const LONG_PATHS: usize = 50_000;
 const MANY: usize = 1_000_000;
