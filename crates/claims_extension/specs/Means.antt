@@ -48,7 +48,7 @@ pub data Judged (e : Ext) : Bool → Type 0 where
   may-not : (Allowed e → ⊥) → Judged e true
 
 must-be-sdir : {e : Ext} → Mandatory (e .signature) → Allowed e → (e .signature ≡ sdir) × (e .body ≡ [])
-must-be-sdir m (optional o) = absurd (o m)
+must-be-sdir m (optional o) = absurd (m o)
 must-be-sdir m empty-sdir = (refl, refl)
 
 no-bytes : (b : List ℕ) → length b ≤ 0 → b ≡ []
@@ -61,24 +61,24 @@ judged {at} {f} {e} x =
     let p : f .start .0 ≡ at + extensionHeader = ap (λ (y : FileAt). y .0) (x .starts) in
     let q : f .stop .0 ≡ at + extensionHeader + length (e .body) = ap (λ (y : FileAt). y .0) (x .stops) in
     let first : reader.firstByte (f .signature) ≡ getD (e .signature) 0 0 = ap reader.firstByte (x .named) ∙ first-byte (x .four) in
-    go p q first (at-most? 97 (reader.firstByte (f .signature))) (at-most? (reader.firstByte (f .signature)) 122) (same? (f .signature) reader.sdir) (less? (f .start .0) (f .stop .0))
+    go p q first (at-most? 65 (reader.firstByte (f .signature))) (at-most? (reader.firstByte (f .signature)) 90) (same? (f .signature) reader.sdir) (less? (f .start .0) (f .stop .0))
   where
-    go : f .start .0 ≡ at + extensionHeader → f .stop .0 ≡ at + extensionHeader + length (e .body) → reader.firstByte (f .signature) ≡ getD (e .signature) 0 0
-        → {t u v w : Bool} → AtMost 97 (reader.firstByte (f .signature)) t → AtMost (reader.firstByte (f .signature)) 122 u → Same (f .signature) reader.sdir v → Less (f .start .0) (f .stop .0) w
-        → Judged e (pick (pick t u false) (pick v w true) false)
-    go p q r (above h) u v w = may-stand (optional {e = e} (λ m. omega (arith, m .least)))
-    go p q r (at-most h) (above k) v w = may-stand (optional {e = e} (λ m. omega (arith, m .most)))
-    go p q r (at-most h) (at-most k) (differs d) w =
-        let m : Mandatory (e .signature) = record { least = omega arith; most = omega arith } in
-        may-not (λ a. d (x .named ∙ ap bigEndian (must-be-sdir m a .0)))
-    go p q r (at-most h) (at-most k) (same i) (less l) =
-        let m : Mandatory (e .signature) = record { least = omega arith; most = omega arith } in
-        may-not (λ a. omega (arith, ap length (must-be-sdir m a .1)))
-    go p q r (at-most h) (at-most k) (same i) (not-less l) =
+    unless-sdir : f .start .0 ≡ at + extensionHeader → f .stop .0 ≡ at + extensionHeader + length (e .body) → Mandatory (e .signature)
+        → {v w : Bool} → Same (f .signature) reader.sdir v → Less (f .start .0) (f .stop .0) w → Judged e (pick v w true)
+    unless-sdir p q m (differs d) w = may-not (λ a. d (x .named ∙ ap bigEndian (must-be-sdir m a .0)))
+    unless-sdir p q m (same i) (less l) = may-not (λ a. omega (arith, ap length (must-be-sdir m a .1)))
+    unless-sdir p q m (same i) (not-less l) =
         let s : e .signature ≡ sdir = signature-injective (x .four) sdir-bytes (sym (x .named) ∙ i) in
         let b : e .body ≡ [] = no-bytes (e .body) (omega arith) in
         let j : ext sdir [] ≡ e = λ n. ext (sym s n) (sym b n) in
         may-stand (subst Allowed j empty-sdir)
+
+    go : f .start .0 ≡ at + extensionHeader → f .stop .0 ≡ at + extensionHeader + length (e .body) → reader.firstByte (f .signature) ≡ getD (e .signature) 0 0
+        → {t u v w : Bool} → AtMost 65 (reader.firstByte (f .signature)) t → AtMost (reader.firstByte (f .signature)) 90 u → Same (f .signature) reader.sdir v → Less (f .start .0) (f .stop .0) w
+        → Judged e (pick (pick (pick t u false) false true) (pick v w true) false)
+    go p q r (at-most h) (at-most k) v w = may-stand (optional {e = e} (record { least = omega arith; most = omega arith }))
+    go p q r (at-most h) (above k) v w = unless-sdir p q (λ o. omega (arith, o .most)) v w
+    go p q r (above h) u v w = unless-sdir p q (λ o. omega (arith, o .least)) v w
 
 pub allowed-if : {at : ℕ} {f : Found} {e : Ext} → SameExtension at f e → isForbidden f ≡ false → Allowed e
 allowed-if {f = f} {e} x q = go (judged x) q

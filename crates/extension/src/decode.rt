@@ -16,13 +16,13 @@ pub enum Walked {
     Mandatory(u32),
 }
 
-// Whether an extension must be understood, by its signature's first byte.
+// Whether an extension must be understood, by its signature's first byte: a reader may pass over those from A to Z alone.
 fn is_mandatory(first: u8) -> bool
     ensures { λ r. ⌜ r ≡ mandatory first ⌝ }
 {
     match first {
-        97..=122 => true,
-        _ => false,
+        65..=90 => false,
+        _ => true,
     }
 }
 
