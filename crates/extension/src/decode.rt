@@ -21,7 +21,7 @@ fn is_mandatory(first: u8) -> bool
     ensures { λ r. ⌜ r ≡ mandatory first ⌝ }
 {
     match first {
-        65..=90 => false,
+        b'A'..=b'Z' => false,
         _ => true,
     }
 }
