@@ -1,35 +1,40 @@
--- Laws of `joined`, `fill_up`, `feed` and `finish`: what the code leaves in a digest is what `feedState` says. Assumes nothing.
+-- Laws of `join`, `fill_up`, `feed` and `finish`: what the code leaves in a digest is what `feedState` says. Assumes nothing.
 use mathlib.Core.Path.{_≡_, refl, sym, ap, _∙_}
-use mathlib.Core.List.{List, [], _∷_, _++_, append-assoc}
+use mathlib.Core.List.{List, [], _∷_, _++_, append-assoc, append-nil}
 use Prim.Native.Nat.{ℕ, _+_, _-_, _*_, _/_, _%_, _^_, _≤_, _<_}
 use native.Mathlib.Nat.{zero-add}
 use native.Mathlib.Numerals.{add-one}
 use native.Mathlib.Omega.{arith}
-use lib.ListN.{length, take, drop, set, replicate, length-append, length-drop, take-append-drop}
-use lib.Seq.{paste, take-paste, take-all, length-take-le, drop-drop, take-at, drop-length, take-length}
-use Rattle.laws.specs.Lists.{length-part}
-use Rattle.laws.specs.Paste.{paste-then, paste-take}
+use lib.ListN.{length, take, drop, set, replicate, length-append, length-drop, length-replicate, take-append-drop, drop-of-length-le}
+use lib.Seq.{paste, take-paste, length-paste, length-paste-head, take-all, length-take-le, drop-drop, take-at, drop-length, take-length}
 use Rattle.wire.specs.BigEndian.{bytesOf, length-bytes}
-use Rattle.laws.specs.Lists.{take-replicate, drop-replicate}
+use Rattle.laws.specs.Lists.{length-part, take-replicate}
 use Rattle.sha1.specs.Sha1.{compress, hashBlocks, hashAll, zerosOf, padding}
 use Rattle.sha1.specs.Pieces.{lastPart, feedState, filled, fed}
 use Rattle.sha1.specs.declared.Digest.{Digest}
 use Rattle.sha1.specs.Theorems.{hash-short, last-short, hash-append, last-append}
 
--- ---- `joined`: two copies into zeros
+-- ---- `join`: a copy, and zeros behind it
 
-filled-paste : (s : List ℕ) (n : ℕ) → length s ≡ n → n ≤ 64 → paste (replicate 64 0) 0 s n ≡ filled s
+pub join-made : (block b d₁ d₂ : List ℕ) (n from m end : ℕ) → length block ≡ 64 → n + m ≤ 64 → from + m ≤ length b → end ≡ n + m → d₁ ≡ paste block n (drop from b) m → d₂ ≡ paste {A = ℕ} d₁ end (replicate (64 - end) 0) (64 - end)
+    → d₂ ≡ filled (take n block ++ take m (drop from b))
 unfolding filled
-filled-paste s n e h = rw (← e, zero-add (length s), take-length s, drop-replicate (length s) 64 0)
+join-made block b d₁ d₂ n from m end long fits inside sum e₁ e₂ =
+    let s = take n block ++ take m (drop from b) in
+    let k : m ≤ length (drop from b) = rw (length-drop from b) (omega arith) in
+    let l : length d₁ ≡ 64 = ap length e₁ ∙ length-paste block n (drop from b) m (omega arith) k ∙ long in
+    let p : take end d₁ ≡ s = rw (sum, e₁) (take-paste block n (drop from b) m (omega arith) k) in
+    let q : length s ≡ end = length-paste-head block n (drop from b) m (omega arith) k ∙ sym sum in
+    let zeros : take {A = ℕ} (64 - end) (replicate (64 - end) 0) ≡ replicate (64 - length s) 0 = take-all (64 - end) (replicate (64 - end) 0) (omega (arith, length-replicate {A = ℕ} (64 - end) 0)) ∙ ap (λ (i : ℕ). replicate (64 - i) 0) (sym q) in
+    let rest : drop (end + (64 - end)) d₁ ≡ [] = drop-of-length-le d₁ {i = end + (64 - end)} (omega arith) in
+    e₂ ∙ (λ i. p i ++ zeros i ++ rest i) ∙ append-nil (s ++ replicate (64 - length s) 0)
 
-pub joined-made : (a b d₁ d₂ : List ℕ) (n from m : ℕ) → n ≤ length a → from + m ≤ length b → n + m ≤ 64
-    → d₁ ≡ paste (replicate 64 0) 0 (drop 0 a) n → d₂ ≡ paste d₁ n (drop from b) m → d₂ ≡ filled (take n a ++ take m (drop from b))
-joined-made a b d₁ d₂ n from m ha hb h e₁ e₂ =
-    let la : length (take n a) ≡ n = length-take-le n a ha in
-    let lb : length (take m (drop from b)) ≡ m = length-part m from b hb in
-    let l : length (take n a ++ take m (drop from b)) ≡ n + m = rw (length-append, la, lb) in
-    paste-then (replicate 64 0) d₁ d₂ 0 n (take n a) (take m (drop from b)) n m (n + m) (e₁ ∙ paste-take (replicate 64 0) 0 a n) (e₂ ∙ paste-take d₁ n (drop from b) m) (sym (zero-add n)) refl la (omega arith) (omega arith)
-    ∙ filled-paste (take n a ++ take m (drop from b)) (n + m) l h
+pub filled-long : (block b d : List ℕ) (n from m : ℕ) → length block ≡ 64 → n + m ≤ 64 → from + m ≤ length b → d ≡ filled (take n block ++ take m (drop from b)) → length d ≡ 64
+unfolding filled
+filled-long block b d n from m long fits inside e =
+    let s = take n block ++ take m (drop from b) in
+    let q : length s ≡ n + m = length-append (take n block) (take m (drop from b)) ∙ rw (length-take-le n block (omega arith), length-part m from b inside) in
+    ap length e ∙ length-append s (replicate (64 - length s) 0) ∙ omega (arith, length-replicate {A = ℕ} (64 - length s) 0)
 
 -- ---- `fill_up`
 
