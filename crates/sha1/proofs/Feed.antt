@@ -16,25 +16,30 @@ use Rattle.sha1.specs.Theorems.{hash-short, last-short, hash-append, las
 
 -- ---- `join`: a copy, and zeros behind it
 
-pub join-made : (block b d₁ d₂ : List ℕ) (n from m end : ℕ) → length block ≡ 64 → n + m ≤ 64 → from + m ≤ length b → end ≡ n + m → d₁ ≡ paste block n (drop from b) m → d₂ ≡ paste {A = ℕ} d₁ end (replicate (64 - end) 0) (64 - end)
-    → d₂ ≡ filled (take n block ++ take m (drop from b))
-unfolding filled
-join-made block b d₁ d₂ n from m end long fits inside sum e₁ e₂ =
-    let s = take n block ++ take m (drop from b) in
-    let k : m ≤ length (drop from b) = rw (length-drop from b) (omega arith) in
-    let l : length d₁ ≡ 64 = ap length e₁ ∙ length-paste block n (drop from b) m (omega arith) k ∙ long in
-    let p : take end d₁ ≡ s = rw (sum, e₁) (take-paste block n (drop from b) m (omega arith) k) in
-    let q : length s ≡ end = length-paste-head block n (drop from b) m (omega arith) k ∙ sym sum in
-    let zeros : take {A = ℕ} (64 - end) (replicate (64 - end) 0) ≡ replicate (64 - length s) 0 = take-all (64 - end) (replicate (64 - end) 0) (omega (arith, length-replicate {A = ℕ} (64 - end) 0)) ∙ ap (λ (i : ℕ). replicate (64 - i) 0) (sym q) in
-    let rest : drop (end + (64 - end)) d₁ ≡ [] = drop-of-length-le d₁ {i = end + (64 - end)} (omega arith) in
-    e₂ ∙ (λ i. p i ++ zeros i ++ rest i) ∙ append-nil (s ++ replicate (64 - length s) 0)
+module _ (block b : List ℕ) (n from m : ℕ) (long : length block ≡ 64) (fits : n + m ≤ 64) (inside : from + m ≤ length b) where
+  joined : List ℕ
+  joined = take n block ++ take m (drop from b)
 
-pub filled-long : (block b d : List ℕ) (n from m : ℕ) → length block ≡ 64 → n + m ≤ 64 → from + m ≤ length b → d ≡ filled (take n block ++ take m (drop from b)) → length d ≡ 64
-unfolding filled
-filled-long block b d n from m long fits inside e =
-    let s = take n block ++ take m (drop from b) in
-    let q : length s ≡ n + m = length-append (take n block) (take m (drop from b)) ∙ rw (length-take-le n block (omega arith), length-part m from b inside) in
-    ap length e ∙ length-append s (replicate (64 - length s) 0) ∙ omega (arith, length-replicate {A = ℕ} (64 - length s) 0)
+  joined-length : length joined ≡ n + m
+  unfolding joined
+  joined-length = length-append (take n block) (take m (drop from b)) ∙ rw (length-take-le n block (omega arith), length-part m from b inside)
+
+  pub join-made : (d₁ d₂ : List ℕ) (end : ℕ) → end ≡ n + m → d₁ ≡ paste block n (drop from b) m → d₂ ≡ paste {A = ℕ} d₁ end (replicate (64 - end) 0) (64 - end)
+      → d₂ ≡ filled (take n block ++ take m (drop from b))
+  unfolding filled joined
+  join-made d₁ d₂ end sum e₁ e₂ =
+      let enough : m ≤ length (drop from b) = rw (length-drop from b) (omega arith) in
+      let start : take end d₁ ≡ take n block ++ take m (drop from b) = rw (sum, e₁) (take-paste block n (drop from b) m (omega arith) enough) in
+      let zeros : take {A = ℕ} (64 - end) (replicate (64 - end) 0) ≡ replicate (64 - length joined) 0 =
+      rw (joined-length, sum) (take-replicate (64 - (n + m)) (64 - (n + m)) 0 (omega arith)) in
+      let l : length d₁ ≡ 64 = ap length e₁ ∙ length-paste block n (drop from b) m (omega arith) enough ∙ long in
+      let rest : drop (end + (64 - end)) d₁ ≡ [] = drop-of-length-le d₁ {i = end + (64 - end)} (omega arith) in
+      e₂ ∙ (λ i. start i ++ zeros i ++ rest i) ∙ append-nil (take n block ++ take m (drop from b) ++ replicate (64 - length joined) 0)
+
+  pub filled-long : (d : List ℕ) → d ≡ filled (take n block ++ take m (drop from b)) → length d ≡ 64
+  unfolding filled joined
+  filled-long d e =
+      ap length e ∙ length-append joined (replicate (64 - length joined) 0) ∙ omega (arith, joined-length, length-replicate {A = ℕ} (64 - length joined) 0)
 
 -- ---- `fill_up`
 

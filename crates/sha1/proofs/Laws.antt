@@ -1,17 +1,16 @@
 -- Laws of the schedule, the rounds and the blocks, each in the form in which a loop's turn or a return asks it. Assumes nothing.
 use mathlib.Core.Path.{_≡_, refl, sym, ap, _∙_}
 use mathlib.Core.List.{List, [], _∷_, _++_, append-assoc, append-nil}
-use Prim.Native.Nat.{ℕ, zero, suc, _+_, _-_, _*_, _%_, _^_, _≤_, _<_}
-use native.Mathlib.Nat.{add-assoc, zero-add, suc-add, add-zero}
+use Prim.Native.Nat.{ℕ, suc, _+_, _-_, _*_, _%_, _^_, _≤_, _<_}
+use native.Mathlib.Nat.{add-assoc}
 use native.Mathlib.Numerals.{add-one}
 use native.Mathlib.Omega.{arith}
 use lib.ListN.{length, getD, take, drop, set, drop-of-length-le}
-use lib.Seq.{paste, getD-take, drop-drop, take-suc-set, take-all, take-paste, drop-cons, length-take-le}
+use lib.Seq.{paste, drop-drop, take-suc-set, take-all, take-paste, drop-cons}
 use borrow.Author.Tests.{lt-ltb, le-ltb}
 use Rattle.laws.specs.Lists.{getD-part}
 use Rattle.wire.specs.BigEndian.{beAt, bytesOf, length-bytes, be-same}
-use Rattle.sha1.specs.Sha1.{ch, parity, maj, mixOf, constOf, wordsOf, nextWord, extend, schedule, Five, five, listed, turn, rounds, added, compress, hashBlocks, digestOf}
-use Rattle.sha1.specs.Schedule.{late}
+use Rattle.sha1.specs.Sha1.{ch, parity, maj, mixOf, constOf, wordsOf, extend, schedule, Five, five, listed, turn, rounds, added, compress, hashBlocks, digestOf}
 
 -- sums of five words
 pub sum-five : (a b c d e : ℕ) → ((((a + b) % 2 ^ 32 + c) % 2 ^ 32 + d) % 2 ^ 32 + e) % 2 ^ 32 ≡ (a + b + c + d + e) % 2 ^ 32
@@ -24,7 +23,8 @@ be-part : (w : ℕ) (s : List ℕ) (at n k : ℕ) → k + w ≤ n → beAt w (ta
 be-part w s at n k h = be-same w (take n (drop at s)) s k (at + k) (λ m l. rw (add-assoc at k m) (getD-part s at n (k + m) (omega arith)))
 
 -- a word more of the block that starts at `at`
-pub words-more : (s w : List ℕ) (at t x : ℕ) → t < 16 → length w ≡ 16 → x ≡ beAt 4 s (at + t * 4) → take t w ≡ wordsOf t (take 64 (drop at s)) → take (t + 1) (set w t x) ≡ wordsOf (t + 1) (take 64 (drop at s))
+pub words-more : (s w : List ℕ) (at t x : ℕ) → t < 16 → length w ≡ 16 → x ≡ beAt 4 s (at + t * 4) → take t w ≡ wordsOf t (take 64 (drop at s))
+    → take (t + 1) (set w t x) ≡ wordsOf (t + 1) (take 64 (drop at s))
 unfolding wordsOf
 words-more s w at t x h l e g = rw (add-one t, take-suc-set w t x (omega arith), g, e, be-part 4 s at 64 (t * 4) (omega arith))
 
@@ -80,12 +80,14 @@ listed-five (a ∷ b ∷ c ∷ d ∷ e ∷ []) l = refl
 listed-five (a ∷ b ∷ c ∷ d ∷ e ∷ f ∷ v) l = absurd (omega arith)
 
 -- a round more; all that are left, up to the eightieth, give `goal`
-pub round-more : (ws v : List ℕ) (goal : Five) (t : ℕ) {from : ℕ} {f : ℕ → ℕ → ℕ → ℕ} {k x e : ℕ} {y : List ℕ} → Run from f k → from ≤ t → t < from + 20 → t < 80 → e ≡ f (five v .b) (five v .c) (five v .d)
-    → x ≡ getD ws t 0 → y ≡ listed (turn e k x (five v)) → rounds ws (80 - t) t (five v) ≡ goal → rounds ws (80 - (t + 1)) (t + 1) (five y) ≡ goal
+pub round-more : (ws v : List ℕ) (goal : Five) (t : ℕ) {from : ℕ} {f : ℕ → ℕ → ℕ → ℕ} {k x e : ℕ} {y : List ℕ} → Run from f k → from ≤ t → t < from + 20
+    → t < 80 → e ≡ f (five v .b) (five v .c) (five v .d) → x ≡ getD ws t 0 → y ≡ listed (turn e k x (five v))
+    → rounds ws (80 - t) t (five v) ≡ goal → rounds ws (80 - (t + 1)) (t + 1) (five y) ≡ goal
 unfolding rounds
 round-more ws v goal t {from} {f} {k} {x} {e} {y} run low high small p q r g =
     let n : 80 - t ≡ suc (80 - (t + 1)) = omega arith in
-    let s : five y ≡ turn (mixOf t (five v .b) (five v .c) (five v .d)) (constOf t) (getD ws t 0) (five v) = rw (r, p, q, run .mix t low high, run .const t low high) in
+    let s : five y ≡ turn (mixOf t (five v .b) (five v .c) (five v .d)) (constOf t) (getD ws t 0) (five v) =
+    rw (r, p, q, run .mix t low high, run .const t low high) in
     rw s (rw n at g)
 
 -- ---- blocks

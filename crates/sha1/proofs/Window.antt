@@ -1,9 +1,9 @@
--- The window of sixteen words with which the rounds go over the schedule. Before round t it has the words t - 16 to t - 1, word i at place i modulo 16 (`Held`);
--- a round makes word t of four of them and puts it where word t - 16 stood. The words before those sixteen count no more (`rounds-same`), so a run of rounds may
--- say what it gives in terms of its window alone. Assumes nothing.
+-- Laws of the window of sixteen words with which the rounds go over the schedule. Before round t it has the words t - 16 to t - 1, word i at place i modulo 16
+-- (`Held`), and the round puts word t where word t - 16 stood (`held-more`). Earlier words count no more (`rounds-same`): so the contract of a run of rounds
+-- speaks of its window alone. Assumes nothing.
 use mathlib.Core.Path.{_≡_, refl, sym, ap, _∙_}
 use mathlib.Core.List.{List, [], _∷_, _++_, flatten}
-use mathlib.Core.Logic.{⊎-elim, _≢_}
+use mathlib.Core.Logic.{⊎-elim}
 use Prim.Native.Nat.{ℕ, zero, suc, _+_, _-_, _*_, _%_, _≤_, _<_}
 use native.Mathlib.Nat.{eq-or-lt-of-le}
 use native.Mathlib.Omega.{arith}
@@ -51,27 +51,34 @@ module _ (ws : List ℕ) (t : ℕ) (w : List ℕ) (held : Held ws t w) (late : 1
   renewed-next : renewed w t ≡ nextWord ws
   unfolding nextWord
   renewed-next =
-      rw (word-back 3 ((t + 13) % 16) (omega arith) (omega arith) (omega arith), word-back 8 ((t + 8) % 16) (omega arith) (omega arith) (omega arith), word-back 14 ((t + 2) % 16) (omega arith) (omega arith) (omega arith), word-back 16 (t % 16) (omega arith) (omega arith) (omega arith))
+      let back-3 : getD w ((t + 13) % 16) 0 ≡ getD ws (length ws - 3) 0 = word-back 3 ((t + 13) % 16) (omega arith) (omega arith) (omega arith) in
+      let back-8 : getD w ((t + 8) % 16) 0 ≡ getD ws (length ws - 8) 0 = word-back 8 ((t + 8) % 16) (omega arith) (omega arith) (omega arith) in
+      let back-14 : getD w ((t + 2) % 16) 0 ≡ getD ws (length ws - 14) 0 = word-back 14 ((t + 2) % 16) (omega arith) (omega arith) (omega arith) in
+      let back-16 : getD w (t % 16) 0 ≡ getD ws (length ws - 16) 0 = word-back 16 (t % 16) (omega arith) (omega arith) (omega arith) in
+      rw (back-3, back-8, back-14, back-16)
 
-  -- the window after round t
+  -- the window after round t: the word t, and the others
+  new-place : (x : ℕ) → x ≡ renewed w t → getD (set w (t % 16) x) (t % 16) 0 ≡ getD (ws ++ (nextWord ws ∷ [])) t 0
+  new-place x e = getD-set-same w (t % 16) x 0 (omega (arith, held .long)) ∙ e ∙ renewed-next ∙ sym (getD-at ws (nextWord ws) [] 0 t (held .count))
+
+  old-place : (x i : ℕ) → i < t → t + 1 ≤ i + 16 → getD (set w (t % 16) x) (i % 16) 0 ≡ getD (ws ++ (nextWord ws ∷ [])) i 0
+  old-place x i h k =
+      let inside : i < length ws = omega (arith, held .count) in
+      getD-set-other w (t % 16) (i % 16) x 0 (λ q. omega arith) ∙ held .place i h (omega arith) ∙ sym (List·getD-append ws (nextWord ws ∷ []) 0 i inside)
+
   held-more : (x : ℕ) → x ≡ renewed w t → Held (ws ++ (nextWord ws ∷ [])) (t + 1) (set w (t % 16) x)
   held-more x e =
       record {
         count = length-append ws (nextWord ws ∷ []) ∙ ap (λ (n : ℕ). n + 1) (held .count);
         long = length-set w (t % 16) x ∙ held .long;
-        place =
-            λ i h k.
-            let upto : i ≤ t = omega arith in
-            ⊎-elim
-            (λ same. rw same (getD-set-same w (t % 16) x 0 (omega (arith, held .long)) ∙ e ∙ renewed-next ∙ sym (getD-at ws (nextWord ws) [] 0 t (held .count))))
-            (λ before. getD-set-other w (t % 16) (i % 16) x 0 (λ q. omega arith) ∙ held .place i before (omega arith) ∙ sym (List·getD-append ws (nextWord ws ∷ []) 0 i (omega (arith, held .count))))
-            (eq-or-lt-of-le upto);
+        place = λ i h k. let upto : i ≤ t = omega arith in ⊎-elim (λ same. rw same (new-place x e)) (λ before. old-place x i before k) (eq-or-lt-of-le upto);
       }
 
--- a window at the start, and one that is repeated so that each word stands at its number
+-- the window of the first sixteen words
 held-first : (w : List ℕ) → length w ≡ 16 → Held w 16 w
 held-first w l = record { count = l; long = l; place = λ i h k. let q : i % 16 ≡ i = omega arith in rw q }
 
+-- a window that is repeated has each word at its number
 module _ (w : List ℕ) (long : length w ≡ 16) where
   length-repeated : (n : ℕ) → length (flatten (replicate n w)) ≡ n * 16
   unfolding flatten
@@ -82,12 +89,13 @@ module _ (w : List ℕ) (long : length w ≡ 16) where
   unfolding flatten
   repeated-place zero i h = absurd (omega arith)
   repeated-place (suc n) i h =
+      let more = flatten (replicate n w) in
       ⊎-elim
-      (λ first. let q : i % 16 ≡ i = omega arith in rw q (List·getD-append w (flatten (replicate n w)) 0 i (omega arith)))
+      (λ first. let q : i % 16 ≡ i = omega arith in rw q (List·getD-append w more 0 i (omega arith)))
       (λ later.
       let q : i ≡ 16 + (i - 16) = omega arith in
       let p : (i - 16) % 16 ≡ i % 16 = omega arith in
-      ap (λ (k : ℕ). getD (w ++ flatten (replicate n w)) k 0) q ∙ getD-right w (flatten (replicate n w)) 16 (i - 16) long ∙ repeated-place n (i - 16) (omega arith) ∙ ap (λ (k : ℕ). getD w k 0) p)
+      ap (λ (k : ℕ). getD (w ++ more) k 0) q ∙ getD-right w more 16 (i - 16) long ∙ repeated-place n (i - 16) (omega arith) ∙ ap (λ (k : ℕ). getD w k 0) p)
       (lt-or-ge i 16)
 
   held-repeated : (t : ℕ) → t ≤ 80 → Held (take t (flatten (replicate 5 w))) t w
@@ -104,26 +112,30 @@ unfolding rounds extend
 rounds-same zero t a b w v p q h = refl
 rounds-same (suc n) t a b w v p q h =
     let x = renewed w t in
-    let word : getD (extend n (a ++ (nextWord a ∷ []))) t 0 ≡ getD (extend n (b ++ (nextWord b ∷ []))) t 0 =
+    let a₁ = a ++ (nextWord a ∷ []) in
+    let b₁ = b ++ (nextWord b ∷ []) in
+    let word : getD (extend n a₁) t 0 ≡ getD (extend n b₁) t 0 =
     next-stays n a t (p .count) ∙ sym (renewed-next a t w p h) ∙ renewed-next b t w q h ∙ sym (next-stays n b t (q .count)) in
-    ap (λ (y : ℕ). rounds (extend n (a ++ (nextWord a ∷ []))) n (t + 1) (turn (mixOf t (v .b) (v .c) (v .d)) (constOf t) y v)) word
-    ∙ rounds-same n (t + 1) (a ++ (nextWord a ∷ [])) (b ++ (nextWord b ∷ [])) (set w (t % 16) x) _ (held-more a t w p h x refl) (held-more b t w q h x refl) (omega arith)
+    ap (λ (y : ℕ). rounds (extend n a₁) n (t + 1) (turn (mixOf t (v .b) (v .c) (v .d)) (constOf t) y v)) word
+    ∙ rounds-same n (t + 1) a₁ b₁ (set w (t % 16) x) _ (held-more a t w p h x refl) (held-more b t w q h x refl) (omega arith)
 
 -- ---- the rounds that take the window's words as they are
 
-pub given-more : (w v : List ℕ) (goal : Five) (t : ℕ) {e : ℕ} {y : List ℕ} → length w ≡ 16 → t < 16 → e ≡ ch (five v .b) (five v .c) (five v .d) → y ≡ listed (turn e 0x5a82_7999 (getD w t 0) (five v))
+pub given-more : (w v : List ℕ) (goal : Five) (t : ℕ) {e : ℕ} {y : List ℕ} → length w ≡ 16 → t < 16
+    → e ≡ ch (five v .b) (five v .c) (five v .d) → y ≡ listed (turn e 0x5a82_7999 (getD w t 0) (five v))
     → rounds (extend 64 w) (80 - t) t (five v) ≡ goal → rounds (extend 64 w) (80 - (t + 1)) (t + 1) (five y) ≡ goal
 given-more w v goal t l h e f g =
     round-more (extend 64 w) v goal t run-ch (omega arith) (omega arith) (omega arith) e (sym (word-stays 64 w t (omega arith))) f g
 
-pub given-end : (w v r : List ℕ) (goal : Five) (t : ℕ) → 16 ≤ t → t ≤ 16 → r ≡ listed (rounds (extend 64 w) 64 16 (five v)) → rounds (extend 64 w) (80 - t) t (five v) ≡ goal → r ≡ listed goal
+pub given-end : (w v r : List ℕ) (goal : Five) (t : ℕ) → 16 ≤ t → t ≤ 16 → r ≡ listed (rounds (extend 64 w) 64 16 (five v))
+    → rounds (extend 64 w) (80 - t) t (five v) ≡ goal → r ≡ listed goal
 given-end w v r goal t a b e g =
     let q : t ≡ 16 = omega arith in
     e ∙ ap listed (rw q at g)
 
 -- ---- the rounds that renew a word
 
--- before round t, where all that are left give `goal`
+-- before round t, where all that are left, up to the eightieth, give `goal`
 pub record Stand (goal : Five) (v w : List ℕ) (t : ℕ) : Type 0 where
   pub late : 16 ≤ t
   pub whole : v ≡ listed (five v)
@@ -131,16 +143,19 @@ pub record Stand (goal : Five) (v w : List ℕ) (t : ℕ) : Type 0 where
   pub held : Held words t w
   pub same : rounds (extend (80 - t) words) (80 - t) t (five v) ≡ goal
 
-round-on : {from : ℕ} {f : ℕ → ℕ → ℕ → ℕ} {k : ℕ} {goal : Five} {v w : List ℕ} {t e x : ℕ} {u y : List ℕ} → Run from f k → from ≤ t → t < from + 20 → Stand goal v w t → e ≡ f (five v .b) (five v .c) (five v .d)
-    → x ≡ renewed w t → u ≡ set w (t % 16) x → y ≡ listed (turn e k x (five v)) → Stand goal y u (t + 1)
+round-on : {from : ℕ} {f : ℕ → ℕ → ℕ → ℕ} {k : ℕ} {goal : Five} {v w : List ℕ} {t e x : ℕ} {u y : List ℕ} → Run from f k → from ≤ t → t < from + 20
+    → Stand goal v w t → e ≡ f (five v .b) (five v .c) (five v .d) → x ≡ renewed w t → u ≡ set w (t % 16) x → y ≡ listed (turn e k x (five v))
+    → Stand goal y u (t + 1)
 unfolding extend
 round-on {from} {f} {k} {goal} {v} {w} {t} {e} {x} {u} {y} run low high stand p q r s =
     let ws = stand .words in
-    let n : 80 - t ≡ suc (80 - (t + 1)) = omega (arith, run .end) in
     let later = ws ++ (nextWord ws ∷ []) in
+    let n : 80 - t ≡ suc (80 - (t + 1)) = omega (arith, run .end) in
+    let all : extend (80 - t) ws ≡ extend (80 - (t + 1)) later = rw n in
+    let next : x ≡ nextWord ws = q ∙ renewed-next ws t w (stand .held) (stand .late) in
+    let word : x ≡ getD (extend (80 - (t + 1)) later) t 0 = next ∙ sym (next-stays (80 - (t + 1)) ws t (stand .held .count)) in
+    let left : rounds (extend (80 - (t + 1)) later) (80 - t) t (five v) ≡ goal = ap (λ (l : List ℕ). rounds l (80 - t) t (five v)) (sym all) ∙ stand .same in
     let held : Held later (t + 1) u = rw r (held-more ws t w (stand .held) (stand .late) x q) in
-    let word : x ≡ getD (extend (80 - (t + 1)) later) t 0 = q ∙ renewed-next ws t w (stand .held) (stand .late) ∙ sym (next-stays (80 - (t + 1)) ws t (stand .held .count)) in
-    let left : rounds (extend (80 - (t + 1)) later) (80 - t) t (five v) ≡ goal = ap (λ (l : List ℕ). rounds l (80 - t) t (five v)) (ap (λ (m : ℕ). extend m ws) (sym n)) ∙ stand .same in
     let whole : y ≡ listed (five y) = rw s in
     record {
       late = omega (arith, stand .late);
@@ -157,9 +172,11 @@ pub record Left (from : ℕ) (goal : Five) (v w : List ℕ) (t : ℕ) : Type 0 w
   pub even : t % 2 ≡ 0
   pub stand : Stand goal v w t
 
-pub left-more : {from : ℕ} {f : ℕ → ℕ → ℕ → ℕ} {k : ℕ} {goal : Five} {v w : List ℕ} {t e₁ x₁ : ℕ} {w₁ y₁ : List ℕ} {e₂ x₂ : ℕ} {w₂ y₂ : List ℕ} → Run from f k → t < from + 20 → Left from goal v w t
+pub left-more : {from : ℕ} {f : ℕ → ℕ → ℕ → ℕ} {k : ℕ} {goal : Five} {v w : List ℕ} {t e₁ x₁ : ℕ} {w₁ y₁ : List ℕ} {e₂ x₂ : ℕ} {w₂ y₂ : List ℕ}
+    → Run from f k → t < from + 20 → Left from goal v w t
     → e₁ ≡ f (five v .b) (five v .c) (five v .d) → x₁ ≡ renewed w t → w₁ ≡ set w (t % 16) x₁ → y₁ ≡ listed (turn e₁ k x₁ (five v))
-    → e₂ ≡ f (five y₁ .b) (five y₁ .c) (five y₁ .d) → x₂ ≡ renewed w₁ (t + 1) → w₂ ≡ set w₁ ((t + 1) % 16) x₂ → y₂ ≡ listed (turn e₂ k x₂ (five y₁)) → Left from goal y₂ w₂ (t + 2)
+    → e₂ ≡ f (five y₁ .b) (five y₁ .c) (five y₁ .d) → x₂ ≡ renewed w₁ (t + 1) → w₂ ≡ set w₁ ((t + 1) % 16) x₂ → y₂ ≡ listed (turn e₂ k x₂ (five y₁))
+    → Left from goal y₂ w₂ (t + 2)
 left-more {from} {f} {k} {goal} {v} {w} {t} {e₁} {x₁} {w₁} {y₁} {e₂} {x₂} {w₂} {y₂} run h left p₁ q₁ r₁ s₁ p₂ q₂ r₂ s₂ =
     let one : Stand goal y₁ w₁ (t + 1) = round-on run (left .low) h (left .stand) p₁ q₁ r₁ s₁ in
     let next : t + 1 < from + 20 = omega (arith, run .even, left .even) in
@@ -172,7 +189,8 @@ pub left-long : {from : ℕ} {goal : Five} {v w : List ℕ} {t : ℕ} {u : List 
 left-long {from} {goal} {v} {w} {t} left x e = ap length e ∙ length-set w (t % 16) x ∙ left .stand .held .long
 
 -- where a run begins: the window has the words before it
-left-start : (from t : ℕ) (v w ws : List ℕ) → from ≤ t → t ≤ from + 20 → t % 2 ≡ 0 → 16 ≤ t → length v ≡ 5 → Held ws t w → Left from (rounds (extend (80 - t) ws) (80 - t) t (five v)) v w t
+left-start : (from t : ℕ) (v w ws : List ℕ) → from ≤ t → t ≤ from + 20 → t % 2 ≡ 0 → 16 ≤ t → length v ≡ 5 → Held ws t w
+    → Left from (rounds (extend (80 - t) ws) (80 - t) t (five v)) v w t
 left-start from t v w ws low high even late l held =
     record { low = low; high = high; even = even; stand = record { late = late; whole = listed-five v l; words = ws; held = held; same = refl } }
 
@@ -182,7 +200,8 @@ left-first v w l n = left-start 0 16 v w w (omega arith) (omega arith) refl (ome
 module _ (from : ℕ) (low : 16 ≤ from) (high : from ≤ 60) (even : from % 2 ≡ 0) where
   pub left-later : (v w : List ℕ) → length v ≡ 5 → length w ≡ 16
       → Left from (rounds (extend (80 - from) (take from (flatten (replicate 5 w)))) (80 - from) from (five v)) v w from
-  left-later v w l n = left-start from from v w (take from (flatten (replicate 5 w))) (omega arith) (omega arith) even low l (held-repeated w n from (omega arith))
+  left-later v w l n =
+      left-start from from v w (take from (flatten (replicate 5 w))) (omega arith) (omega arith) even low l (held-repeated w n from (omega arith))
 
 -- where it ends: the next run gives the goal, and after the last it is there
 module _ {from : ℕ} {goal : Five} {v w : List ℕ} {t : ℕ} (left : Left from goal v w t) (done : from + 20 ≤ t) where
@@ -190,11 +209,13 @@ module _ {from : ℕ} {goal : Five} {v w : List ℕ} {t : ℕ} (left : Left from
       → r ≡ listed (rounds (extend (60 - from) (take (from + 20) (flatten (replicate 5 w)))) (60 - from) (from + 20) (five v)) → r ≡ listed goal
   left-next {r} small e =
       let stand = left .stand in
+      let again = take (from + 20) (flatten (replicate 5 w)) in
       let q : t ≡ from + 20 = omega (arith, left .high) in
       let n : 80 - t ≡ 60 - from = omega arith in
-      let held : Held (stand .words) (from + 20) w = rw q at (stand .held) in
       let same : rounds (extend (60 - from) (stand .words)) (60 - from) (from + 20) (five v) ≡ goal = rw (n, q) at (stand .same) in
-      e ∙ ap listed (rounds-same (60 - from) (from + 20) (take (from + 20) (flatten (replicate 5 w))) (stand .words) w (five v) (held-repeated w (held .long) (from + 20) (omega arith)) held (omega (arith, stand .late)) ∙ same)
+      let held : Held (stand .words) (from + 20) w = rw q at (stand .held) in
+      let anew : Held again (from + 20) w = held-repeated w (held .long) (from + 20) (omega arith) in
+      e ∙ ap listed (rounds-same (60 - from) (from + 20) again (stand .words) w (five v) anew held (omega (arith, stand .late)) ∙ same)
 
   pub left-end : 60 ≤ from → v ≡ listed goal
   unfolding rounds

@@ -71,7 +71,8 @@ fn blend(p: u32, q: u32, r: u32, s: u32) -> u32
     rotl(p ^ q ^ r ^ s, 1)
 }
 
-// The schedule's word t, made of four of the sixteen before it. It takes the place of the oldest of them: word t stands at t modulo 16.
+// The schedule's word t, made of those 3, 8, 14 and 16 before it. Word t stands at t modulo 16, so it takes the place of the last of these, for which no later
+// word asks.
 fn renew(w: &mut [u32; 16], t: usize) -> u32
     requires { ⌜ (length (now w) ≡ 16) × (t < 80) ⌝ }
     ensures { λ r. ⌜ r ≡ rotl 1 (bitXor (bitXor (bitXor (getD (now (w .entry)) ((t + 13) % 16) 0) (getD (now (w .entry)) ((t + 8) % 16) 0))
@@ -119,57 +120,24 @@ fn turn(v: [u32; 5], f: u32, k: u32, w: u32) -> [u32; 5]
     [sum(v[0], f, v[4], k, w), v[0], rotl(v[1], 30), v[2], v[3]]
 }
 
-// The rounds from 60 on. Each run of rounds is a function with a fixed number of turns and one caller: it is unrolled, and compiled into its caller, and the
-// window need not go through memory. Two rounds to a turn, since the compiler does not unroll twenty turns of this size. The contract repeats the window, so
-// that word t stands at t: of the words before the rounds only the last sixteen count.
-fn rounds_last(h: [u32; 5], w: &mut [u32; 16]) -> [u32; 5]
+// All eighty rounds: sixteen with the words that the window has, and those of `rounds_ch`. Each run of rounds is a function with a fixed number of turns and
+// one caller: it is unrolled, and compiled into its caller, and the window need not go through memory.
+fn all_rounds(h: [u32; 5], w: &mut [u32; 16]) -> [u32; 5]
     requires { ⌜ length (now w) ≡ 16 ⌝ }
-    ensures { λ r. ⌜ r ≡ listed (rounds (extend 20 (take 60 (flatten (replicate 5 (now (w .entry)))))) 20 60 (five h)) ⌝ }
+    ensures { λ r. ⌜ r ≡ listed (rounds (extend 64 (now (w .entry))) 80 0 (five h)) ⌝ }
 {
     let mut v = h;
-    let mut t: usize = 60;
-    while t < 80 {
-        let between = turn(v, parity(v), K_LAST, renew(w, t));
-        let next = turn(between, parity(between), K_LAST, renew(w, t + 1));
+    let mut t: usize = 0;
+    while t < 16 {
+        let next = turn(v, ch(v), K_CH, w[t]);
         v = next;
-        t += 2;
+        t += 1;
     }
-    v
+    rounds_ch(v, w)
 }
 
-// The rounds from 40 on: twenty, and those of `rounds_last`, to which the window goes on.
-fn rounds_maj(h: [u32; 5], w: &mut [u32; 16]) -> [u32; 5]
-    requires { ⌜ length (now w) ≡ 16 ⌝ }
-    ensures { λ r. ⌜ r ≡ listed (rounds (extend 40 (take 40 (flatten (replicate 5 (now (w .entry)))))) 40 40 (five h)) ⌝ }
-{
-    let mut v = h;
-    let mut t: usize = 40;
-    while t < 60 {
-        let between = turn(v, maj(v), K_MAJ, renew(w, t));
-        let next = turn(between, maj(between), K_MAJ, renew(w, t + 1));
-        v = next;
-        t += 2;
-    }
-    rounds_last(v, w)
-}
-
-// The rounds from 20 on: twenty, and those of `rounds_maj`.
-fn rounds_parity(h: [u32; 5], w: &mut [u32; 16]) -> [u32; 5]
-    requires { ⌜ length (now w) ≡ 16 ⌝ }
-    ensures { λ r. ⌜ r ≡ listed (rounds (extend 60 (take 20 (flatten (replicate 5 (now (w .entry)))))) 60 20 (five h)) ⌝ }
-{
-    let mut v = h;
-    let mut t: usize = 20;
-    while t < 40 {
-        let between = turn(v, parity(v), K_PARITY, renew(w, t));
-        let next = turn(between, parity(between), K_PARITY, renew(w, t + 1));
-        v = next;
-        t += 2;
-    }
-    rounds_maj(v, w)
-}
-
-// The rounds from 16 on: the first four that renew a word, and those of `rounds_parity`.
+// The rounds from 16 on: four, each with a word renewed, and those of `rounds_parity`. There are two to a turn here and below, since the compiler does not
+// unroll twenty turns of this size.
 fn rounds_ch(h: [u32; 5], w: &mut [u32; 16]) -> [u32; 5]
     requires { ⌜ length (now w) ≡ 16 ⌝ }
     ensures { λ r. ⌜ r ≡ listed (rounds (extend 64 (now (w .entry))) 64 16 (five h)) ⌝ }
@@ -185,19 +153,53 @@ fn rounds_ch(h: [u32; 5], w: &mut [u32; 16]) -> [u32; 5]
     rounds_parity(v, w)
 }
 
-// All eighty rounds: sixteen with the words that the window has, and those of `rounds_ch`.
-fn all_rounds(h: [u32; 5], w: &mut [u32; 16]) -> [u32; 5]
+// The rounds from 20 on: twenty, and those of `rounds_maj`. The contract repeats the window, so that word t stands at t: of the words before the rounds only
+// the last sixteen count.
+fn rounds_parity(h: [u32; 5], w: &mut [u32; 16]) -> [u32; 5]
     requires { ⌜ length (now w) ≡ 16 ⌝ }
-    ensures { λ r. ⌜ r ≡ listed (rounds (extend 64 (now (w .entry))) 80 0 (five h)) ⌝ }
+    ensures { λ r. ⌜ r ≡ listed (rounds (extend 60 (take 20 (flatten (replicate 5 (now (w .entry)))))) 60 20 (five h)) ⌝ }
 {
     let mut v = h;
-    let mut t: usize = 0;
-    while t < 16 {
-        let next = turn(v, ch(v), K_CH, w[t]);
+    let mut t: usize = 20;
+    while t < 40 {
+        let between = turn(v, parity(v), K_PARITY, renew(w, t));
+        let next = turn(between, parity(between), K_PARITY, renew(w, t + 1));
         v = next;
-        t += 1;
+        t += 2;
     }
-    rounds_ch(v, w)
+    rounds_maj(v, w)
+}
+
+// The rounds from 40 on: twenty, and those of `rounds_last`.
+fn rounds_maj(h: [u32; 5], w: &mut [u32; 16]) -> [u32; 5]
+    requires { ⌜ length (now w) ≡ 16 ⌝ }
+    ensures { λ r. ⌜ r ≡ listed (rounds (extend 40 (take 40 (flatten (replicate 5 (now (w .entry)))))) 40 40 (five h)) ⌝ }
+{
+    let mut v = h;
+    let mut t: usize = 40;
+    while t < 60 {
+        let between = turn(v, maj(v), K_MAJ, renew(w, t));
+        let next = turn(between, maj(between), K_MAJ, renew(w, t + 1));
+        v = next;
+        t += 2;
+    }
+    rounds_last(v, w)
+}
+
+// The rounds from 60 on.
+fn rounds_last(h: [u32; 5], w: &mut [u32; 16]) -> [u32; 5]
+    requires { ⌜ length (now w) ≡ 16 ⌝ }
+    ensures { λ r. ⌜ r ≡ listed (rounds (extend 20 (take 60 (flatten (replicate 5 (now (w .entry)))))) 20 60 (five h)) ⌝ }
+{
+    let mut v = h;
+    let mut t: usize = 60;
+    while t < 80 {
+        let between = turn(v, parity(v), K_LAST, renew(w, t));
+        let next = turn(between, parity(between), K_LAST, renew(w, t + 1));
+        v = next;
+        t += 2;
+    }
+    v
 }
 
 // Each word of v and h, added.

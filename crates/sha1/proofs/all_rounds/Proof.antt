@@ -1,4 +1,4 @@
--- `sha1::all_rounds` meets its contract: each turn of the loop is a round with a word that the window has, and the next run goes on where it ends. Assumes nothing.
+-- `sha1::all_rounds` meets its contract: each turn of the loop is a round with a word of the window, and the next run goes on where they end. Assumes nothing.
 use borrow.Author.Needs.{needs}
 use native.Mathlib.Omega.{arith}
 use mathlib.Core.Path.{_≡_, refl}

@@ -1,4 +1,4 @@
--- `sha1::rounds_ch` meets its contract: the rounds are those of `run-ch`, each turn of the loop is two of them, and the next run goes on where it ends. Assumes nothing.
+-- `sha1::rounds_ch` meets its contract: each turn of the loop is two rounds of `run-ch`, and the next run goes on where they end. Assumes nothing.
 use borrow.Author.Needs.{needs}
 use native.Mathlib.Omega.{arith}
 use Prim.Native.Nat.{_-_}
@@ -51,7 +51,9 @@ loop-again c =
     let two = c .before .before .before in
     let one = two .before .before in
     let start = one .before .before in
-    left-more run-ch (start .before .loop-test .taken) (start .before .before .loop .inv) (start .ch .ensures) (one .renew .ensures .0) (one .renew .ensures .1) (two .before .turn .ensures) (two .ch2 .ensures) (c .before .renew2 .ensures .0) (c .before .renew2 .ensures .1) (c .turn2 .ensures)
+    left-more run-ch (start .before .loop-test .taken) (start .before .before .loop .inv)
+    (start .ch .ensures) (one .renew .ensures .0) (one .renew .ensures .1) (two .before .turn .ensures)
+    (two .ch2 .ensures) (c .before .renew2 .ensures .0) (c .before .renew2 .ensures .1) (c .turn2 .ensures)
 
 rounds-parity-requires : tie.Need-rounds-parity-requires Inv-loop μ-loop
 rounds-parity-requires c κs = c .before .before .loop .inv .stand .held .long

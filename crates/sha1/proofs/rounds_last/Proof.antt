@@ -1,4 +1,4 @@
--- `sha1::rounds_last` meets its contract: the rounds are those of `run-last`, each turn of the loop is two of them, and after the last of them no round is left. Assumes nothing.
+-- `sha1::rounds_last` meets its contract: each turn of the loop is two rounds of `run-last`, and after the last no round is left. Assumes nothing.
 use borrow.Author.Needs.{needs}
 use native.Mathlib.Omega.{arith}
 use mathlib.Core.Path.{refl}
@@ -54,7 +54,9 @@ loop-again c =
     let two = c .before .before .before in
     let one = two .before .before in
     let start = one .before .before in
-    left-more run-last (start .before .loop-test .taken) (start .before .before .loop .inv) (start .parity .ensures) (one .renew .ensures .0) (one .renew .ensures .1) (two .before .turn .ensures) (two .parity2 .ensures) (c .before .renew2 .ensures .0) (c .before .renew2 .ensures .1) (c .turn2 .ensures)
+    left-more run-last (start .before .loop-test .taken) (start .before .before .loop .inv)
+    (start .parity .ensures) (one .renew .ensures .0) (one .renew .ensures .1) (two .before .turn .ensures)
+    (two .parity2 .ensures) (c .before .renew2 .ensures .0) (c .before .renew2 .ensures .1) (c .turn2 .ensures)
 
 returns : tie.Need-returns Inv-loop μ-loop
 returns c = left-end (c .before .loop .inv) (c .loop-test .left) (omega arith)

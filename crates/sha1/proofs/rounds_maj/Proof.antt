@@ -1,4 +1,4 @@
--- `sha1::rounds_maj` meets its contract: the rounds are those of `run-maj`, each turn of the loop is two of them, and the next run goes on where it ends. Assumes nothing.
+-- `sha1::rounds_maj` meets its contract: each turn of the loop is two rounds of `run-maj`, and the next run goes on where they end. Assumes nothing.
 use borrow.Author.Needs.{needs}
 use native.Mathlib.Omega.{arith}
 use mathlib.Core.Path.{refl}
@@ -54,7 +54,9 @@ loop-again c =
     let two = c .before .before .before in
     let one = two .before .before in
     let start = one .before .before in
-    left-more run-maj (start .before .loop-test .taken) (start .before .before .loop .inv) (start .maj .ensures) (one .renew .ensures .0) (one .renew .ensures .1) (two .before .turn .ensures) (two .maj2 .ensures) (c .before .renew2 .ensures .0) (c .before .renew2 .ensures .1) (c .turn2 .ensures)
+    left-more run-maj (start .before .loop-test .taken) (start .before .before .loop .inv)
+    (start .maj .ensures) (one .renew .ensures .0) (one .renew .ensures .1) (two .before .turn .ensures)
+    (two .maj2 .ensures) (c .before .renew2 .ensures .0) (c .before .renew2 .ensures .1) (c .turn2 .ensures)
 
 rounds-last-requires : tie.Need-rounds-last-requires Inv-loop μ-loop
 rounds-last-requires c κs = c .before .before .loop .inv .stand .held .long
