@@ -39,7 +39,7 @@ pub record Held (ws : List ℕ) (t : ℕ) (w : List ℕ) : Type 0 where
   pub place : (i : ℕ) → i < t → t ≤ i + 16 → getD w (i % 16) 0 ≡ getD ws i 0
 
 -- the word t, as `renew` makes it
-abbrev pub renewed : List ℕ → ℕ → ℕ
+abbrev renewed : List ℕ → ℕ → ℕ
 renewed w t = rotl 1 (bitXor (bitXor (bitXor (getD w ((t + 13) % 16) 0) (getD w ((t + 8) % 16) 0)) (getD w ((t + 2) % 16) 0)) (getD w (t % 16) 0))
 
 module _ (ws : List ℕ) (t : ℕ) (w : List ℕ) (held : Held ws t w) (late : 16 ≤ t) where
@@ -79,6 +79,9 @@ held-first : (w : List ℕ) → length w ≡ 16 → Held w 16 w
 held-first w l = record { count = l; long = l; place = λ i h k. let q : i % 16 ≡ i = omega arith in rw q }
 
 -- a window that is repeated has each word at its number
+abbrev pub repeated : ℕ → List ℕ → List ℕ
+repeated t w = take t (flatten (replicate 5 w))
+
 module _ (w : List ℕ) (long : length w ≡ 16) where
   length-repeated : (n : ℕ) → length (flatten (replicate n w)) ≡ n * 16
   unfolding flatten
@@ -98,13 +101,17 @@ module _ (w : List ℕ) (long : length w ≡ 16) where
       ap (λ (k : ℕ). getD (w ++ more) k 0) q ∙ getD-right w more 16 (i - 16) long ∙ repeated-place n (i - 16) (omega arith) ∙ ap (λ (k : ℕ). getD w k 0) p)
       (lt-or-ge i 16)
 
-  held-repeated : (t : ℕ) → t ≤ 80 → Held (take t (flatten (replicate 5 w))) t w
+  held-repeated : (t : ℕ) → t ≤ 80 → Held (repeated t w) t w
   held-repeated t h =
       record {
         count = length-take-le t (flatten (replicate 5 w)) (omega (arith, length-repeated 5));
         long = long;
         place = λ i a b. sym (getD-take t (flatten (replicate 5 w)) i 0 a ∙ repeated-place 5 i (omega arith));
       }
+
+  -- so its next word is the word t
+  pub next-repeated : (t x : ℕ) → 16 ≤ t → t < 80 → x ≡ renewed w t → x ≡ nextWord (repeated t w)
+  next-repeated t x late h e = e ∙ renewed-next (repeated t w) t w (held-repeated t (omega arith)) late
 
 -- two lists of words of which one window holds the last sixteen give the same rounds
 rounds-same : (n t : ℕ) (a b w : List ℕ) (v : Five) → Held a t w → Held b t w → 16 ≤ t → rounds (extend n a) n t v ≡ rounds (extend n b) n t v
@@ -144,7 +151,7 @@ pub record Stand (goal : Five) (v w : List ℕ) (t : ℕ) : Type 0 where
   pub same : rounds (extend (80 - t) words) (80 - t) t (five v) ≡ goal
 
 round-on : {from : ℕ} {f : ℕ → ℕ → ℕ → ℕ} {k : ℕ} {goal : Five} {v w : List ℕ} {t e x : ℕ} {u y : List ℕ} → Run from f k → from ≤ t → t < from + 20
-    → Stand goal v w t → e ≡ f (five v .b) (five v .c) (five v .d) → x ≡ renewed w t → u ≡ set w (t % 16) x → y ≡ listed (turn e k x (five v))
+    → Stand goal v w t → e ≡ f (five v .b) (five v .c) (five v .d) → x ≡ nextWord (repeated t w) → u ≡ set w (t % 16) x → y ≡ listed (turn e k x (five v))
     → Stand goal y u (t + 1)
 unfolding extend
 round-on {from} {f} {k} {goal} {v} {w} {t} {e} {x} {u} {y} run low high stand p q r s =
@@ -152,10 +159,11 @@ round-on {from} {f} {k} {goal} {v} {w} {t} {e} {x} {u} {y} run low high stand p 
     let later = ws ++ (nextWord ws ∷ []) in
     let n : 80 - t ≡ suc (80 - (t + 1)) = omega (arith, run .end) in
     let all : extend (80 - t) ws ≡ extend (80 - (t + 1)) later = rw n in
-    let next : x ≡ nextWord ws = q ∙ renewed-next ws t w (stand .held) (stand .late) in
+    let made : x ≡ renewed w t = q ∙ sym (next-repeated w (stand .held .long) t (renewed w t) (stand .late) (omega (arith, run .end)) refl) in
+    let next : x ≡ nextWord ws = made ∙ renewed-next ws t w (stand .held) (stand .late) in
     let word : x ≡ getD (extend (80 - (t + 1)) later) t 0 = next ∙ sym (next-stays (80 - (t + 1)) ws t (stand .held .count)) in
     let left : rounds (extend (80 - (t + 1)) later) (80 - t) t (five v) ≡ goal = ap (λ (l : List ℕ). rounds l (80 - t) t (five v)) (sym all) ∙ stand .same in
-    let held : Held later (t + 1) u = rw r (held-more ws t w (stand .held) (stand .late) x q) in
+    let held : Held later (t + 1) u = rw r (held-more ws t w (stand .held) (stand .late) x made) in
     let whole : y ≡ listed (five y) = rw s in
     record {
       late = omega (arith, stand .late);
@@ -174,9 +182,9 @@ pub record Left (from : ℕ) (goal : Five) (v w : List ℕ) (t : ℕ) : Type 0 w
 
 pub left-more : {from : ℕ} {f : ℕ → ℕ → ℕ → ℕ} {k : ℕ} {goal : Five} {v w : List ℕ} {t e₁ x₁ : ℕ} {w₁ y₁ : List ℕ} {e₂ x₂ : ℕ} {w₂ y₂ : List ℕ}
     → Run from f k → t < from + 20 → Left from goal v w t
-    → e₁ ≡ f (five v .b) (five v .c) (five v .d) → x₁ ≡ renewed w t → w₁ ≡ set w (t % 16) x₁ → y₁ ≡ listed (turn e₁ k x₁ (five v))
-    → e₂ ≡ f (five y₁ .b) (five y₁ .c) (five y₁ .d) → x₂ ≡ renewed w₁ (t + 1) → w₂ ≡ set w₁ ((t + 1) % 16) x₂ → y₂ ≡ listed (turn e₂ k x₂ (five y₁))
-    → Left from goal y₂ w₂ (t + 2)
+    → e₁ ≡ f (five v .b) (five v .c) (five v .d) → x₁ ≡ nextWord (repeated t w) → w₁ ≡ set w (t % 16) x₁ → y₁ ≡ listed (turn e₁ k x₁ (five v))
+    → e₂ ≡ f (five y₁ .b) (five y₁ .c) (five y₁ .d) → x₂ ≡ nextWord (repeated (t + 1) w₁) → w₂ ≡ set w₁ ((t + 1) % 16) x₂
+    → y₂ ≡ listed (turn e₂ k x₂ (five y₁)) → Left from goal y₂ w₂ (t + 2)
 left-more {from} {f} {k} {goal} {v} {w} {t} {e₁} {x₁} {w₁} {y₁} {e₂} {x₂} {w₂} {y₂} run h left p₁ q₁ r₁ s₁ p₂ q₂ r₂ s₂ =
     let one : Stand goal y₁ w₁ (t + 1) = round-on run (left .low) h (left .stand) p₁ q₁ r₁ s₁ in
     let next : t + 1 < from + 20 = omega (arith, run .even, left .even) in
@@ -199,23 +207,21 @@ left-first v w l n = left-start 0 16 v w w (omega arith) (omega arith) refl (ome
 
 module _ (from : ℕ) (low : 16 ≤ from) (high : from ≤ 60) (even : from % 2 ≡ 0) where
   pub left-later : (v w : List ℕ) → length v ≡ 5 → length w ≡ 16
-      → Left from (rounds (extend (80 - from) (take from (flatten (replicate 5 w)))) (80 - from) from (five v)) v w from
-  left-later v w l n =
-      left-start from from v w (take from (flatten (replicate 5 w))) (omega arith) (omega arith) even low l (held-repeated w n from (omega arith))
+      → Left from (rounds (extend (80 - from) (repeated from w)) (80 - from) from (five v)) v w from
+  left-later v w l n = left-start from from v w (repeated from w) (omega arith) (omega arith) even low l (held-repeated w n from (omega arith))
 
 -- where it ends: the next run gives the goal, and after the last it is there
 module _ {from : ℕ} {goal : Five} {v w : List ℕ} {t : ℕ} (left : Left from goal v w t) (done : from + 20 ≤ t) where
   pub left-next : {r : List ℕ} → from ≤ 40
-      → r ≡ listed (rounds (extend (60 - from) (take (from + 20) (flatten (replicate 5 w)))) (60 - from) (from + 20) (five v)) → r ≡ listed goal
+      → r ≡ listed (rounds (extend (60 - from) (repeated (from + 20) w)) (60 - from) (from + 20) (five v)) → r ≡ listed goal
   left-next {r} small e =
       let stand = left .stand in
-      let again = take (from + 20) (flatten (replicate 5 w)) in
       let q : t ≡ from + 20 = omega (arith, left .high) in
       let n : 80 - t ≡ 60 - from = omega arith in
       let same : rounds (extend (60 - from) (stand .words)) (60 - from) (from + 20) (five v) ≡ goal = rw (n, q) at (stand .same) in
       let held : Held (stand .words) (from + 20) w = rw q at (stand .held) in
-      let anew : Held again (from + 20) w = held-repeated w (held .long) (from + 20) (omega arith) in
-      e ∙ ap listed (rounds-same (60 - from) (from + 20) again (stand .words) w (five v) anew held (omega (arith, stand .late)) ∙ same)
+      let anew : Held (repeated (from + 20) w) (from + 20) w = held-repeated w (held .long) (from + 20) (omega arith) in
+      e ∙ ap listed (rounds-same (60 - from) (from + 20) (repeated (from + 20) w) (stand .words) w (five v) anew held (omega (arith, stand .late)) ∙ same)
 
   pub left-end : 60 ≤ from → v ≡ listed goal
   unfolding rounds

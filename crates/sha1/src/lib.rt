@@ -4,8 +4,8 @@ ghost use mathlib.Core.Path.{_≡_};
 ghost use mathlib.Core.List.{[], _++_, flatten};
 ghost use Prim.Native.Nat.{_+_, _-_, _*_, _%_, _^_, _≤_, _<_};
 ghost use lib.Bits.{bitXor};
-ghost use lib.ListN.{length, getD, take, drop, set, replicate};
-ghost use Rattle.sha1.specs.Sha1.{rotl, ch, parity, maj, wordsOf, extend, five, listed, turn, rounds, added, compress, hashBlocks, hashAll, digestOf, sha1};
+ghost use lib.ListN.{length, take, drop, set, replicate};
+ghost use Rattle.sha1.specs.Sha1.{rotl, ch, parity, maj, wordsOf, nextWord, extend, five, listed, turn, rounds, added, compress, hashBlocks, hashAll, digestOf, sha1};
 ghost use Rattle.sha1.specs.Pieces.{filled, digestAfter, fed, finished};
 
 // The bytes of a block.
@@ -72,11 +72,10 @@ fn blend(p: u32, q: u32, r: u32, s: u32) -> u32
 }
 
 // The schedule's word t, made of those 3, 8, 14 and 16 before it. Word t stands at t modulo 16, so it takes the place of the last of these, for which no later
-// word asks.
+// word asks. The contract repeats the window, so that each word stands at its number: of the words before t only the last sixteen count.
 fn renew(w: &mut [u32; 16], t: usize) -> u32
-    requires { ⌜ (length (now w) ≡ 16) × (t < 80) ⌝ }
-    ensures { λ r. ⌜ r ≡ rotl 1 (bitXor (bitXor (bitXor (getD (now (w .entry)) ((t + 13) % 16) 0) (getD (now (w .entry)) ((t + 8) % 16) 0))
-        (getD (now (w .entry)) ((t + 2) % 16) 0)) (getD (now (w .entry)) (t % 16) 0)) ⌝ }
+    requires { ⌜ (length (now w) ≡ 16) × ((16 ≤ t) × (t < 80)) ⌝ }
+    ensures { λ r. ⌜ r ≡ nextWord (take t (flatten (replicate 5 (now (w .entry))))) ⌝ }
     ensures { λ r. ⌜ now (w .exit) ≡ set (now (w .entry)) (t % 16) r ⌝ }
 {
     let x = blend(
@@ -153,8 +152,7 @@ fn rounds_ch(h: [u32; 5], w: &mut [u32; 16]) -> [u32; 5]
     rounds_parity(v, w)
 }
 
-// The rounds from 20 on: twenty, and those of `rounds_maj`. The contract repeats the window, so that word t stands at t: of the words before the rounds only
-// the last sixteen count.
+// The rounds from 20 on: twenty, and those of `rounds_maj`.
 fn rounds_parity(h: [u32; 5], w: &mut [u32; 16]) -> [u32; 5]
     requires { ⌜ length (now w) ≡ 16 ⌝ }
     ensures { λ r. ⌜ r ≡ listed (rounds (extend 60 (take 20 (flatten (replicate 5 (now (w .entry)))))) 60 20 (five h)) ⌝ }

@@ -21,7 +21,7 @@ ch-requires : tie.Need-ch-requires Inv-loop μ-loop
 ch-requires c κs = search needs
 
 renew-requires : tie.Need-renew-requires Inv-loop μ-loop
-renew-requires c κs = (c .before .before .before .loop .inv .stand .held .long, omega arith)
+renew-requires c κs = (c .before .before .before .loop .inv .stand .held .long, (omega arith, omega arith))
 
 turn-requires : tie.Need-turn-requires Inv-loop μ-loop
 turn-requires c κs = search needs
@@ -35,7 +35,7 @@ add-renew c = search needs
 renew-requires-2 : tie.Need-renew-requires-2 Inv-loop μ-loop
 renew-requires-2 c κs =
     let one = c .before .before .before in
-    (left-long (one .before .before .before .before .loop .inv) (one .renew .result) (one .renew .ensures .1), omega arith)
+    (left-long (one .before .before .before .before .loop .inv) (one .renew .result) (one .renew .ensures .1), (omega arith, omega arith))
 
 turn-requires-2 : tie.Need-turn-requires-2 Inv-loop μ-loop
 turn-requires-2 c κs = search needs

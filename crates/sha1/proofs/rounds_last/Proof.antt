@@ -2,17 +2,15 @@
 use borrow.Author.Needs.{needs}
 use native.Mathlib.Omega.{arith}
 use mathlib.Core.Path.{refl}
-use mathlib.Core.List.{flatten}
 use Prim.Native.Nat.{_-_}
-use lib.ListN.{take, replicate}
 use Rattle.sha1.specs.Sha1.{extend, five, rounds}
 use Rattle.sha1.proofs.Laws.{run-last}
-use Rattle.sha1.proofs.Window.{Left, left-later, left-more, left-end, left-long}
+use Rattle.sha1.proofs.Window.{repeated, Left, left-later, left-more, left-end, left-long}
 use Rattle.sha1.proofs.rounds_last.Statement.{statement}
 use Rattle.sha1.proofs.rounds_last.Tie as tie
 
 abbrev Inv-loop : tie.InvT-loop
-Inv-loop w₀ v₀ t₀ w v t = Left 60 (rounds (extend 20 (take 60 (flatten (replicate 5 w₀)))) 20 60 (five v₀)) v w t
+Inv-loop w₀ v₀ t₀ w v t = Left 60 (rounds (extend 20 (repeated 60 w₀)) 20 60 (five v₀)) v w t
 
 abbrev μ-loop : tie.MeasureT-loop
 μ-loop w₀ v₀ t₀ w v t = 80 - t
@@ -24,7 +22,7 @@ parity-requires : tie.Need-parity-requires Inv-loop μ-loop
 parity-requires c κs = search needs
 
 renew-requires : tie.Need-renew-requires Inv-loop μ-loop
-renew-requires c κs = (c .before .before .before .loop .inv .stand .held .long, omega arith)
+renew-requires c κs = (c .before .before .before .loop .inv .stand .held .long, (omega arith, omega arith))
 
 turn-requires : tie.Need-turn-requires Inv-loop μ-loop
 turn-requires c κs = search needs
@@ -38,7 +36,7 @@ add-renew c = search needs
 renew-requires-2 : tie.Need-renew-requires-2 Inv-loop μ-loop
 renew-requires-2 c κs =
     let one = c .before .before .before in
-    (left-long (one .before .before .before .before .loop .inv) (one .renew .result) (one .renew .ensures .1), omega arith)
+    (left-long (one .before .before .before .before .loop .inv) (one .renew .result) (one .renew .ensures .1), (omega arith, omega arith))
 
 turn-requires-2 : tie.Need-turn-requires-2 Inv-loop μ-loop
 turn-requires-2 c κs = search needs
