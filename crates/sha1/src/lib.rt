@@ -95,7 +95,7 @@ fn words(s: &[u8], at: usize) -> [u32; 16]
 {
     let mut w = [0u32; 16];
     let mut t: usize = 0;
-    while t < 16 {
+    while t < WINDOW {
         w[t] = wire::be32(s, at + t * 4);
         t += 1;
     }
@@ -127,7 +127,7 @@ fn all_rounds(h: [u32; 5], w: &mut [u32; 16]) -> [u32; 5]
 {
     let mut v = h;
     let mut t: usize = 0;
-    while t < 16 {
+    while t < WINDOW {
         let next = turn(v, ch(v), K_CH, w[t]);
         v = next;
         t += 1;
