@@ -16,6 +16,7 @@ use Rattle.laws.specs.Tests.{Same, same, differs, same?, lt-or-ge, tri}
 use Rattle.laws.specs.Lists.{drop-next}
 use Rattle.laws.specs.Order.{below, compared, compared-lt, compared-gt, compared-eq, flip, compared-flip}
 use Rattle.wire.specs.BigEndian.{beAt, be-join, be-small}
+use Rattle.entry.specs.Paths.{Paths}
 use Rattle.entry.specs.Record.{recordsIn, stageAt, liesInside, pathAt}
 use Rattle.access.specs.Order.{orderOf, stageOrder, thenBy, placed, agreeing, Passed, EightsOf, differ-at, agree-to}
 use Rattle.access.specs.Verify.{isLess, followsAt, verifyFrom, verifyAt}
@@ -304,7 +305,7 @@ placed-is a b g h by st o eby est eo = eo ∙ rw (eby, est)
 
 -- ---- the order check: what is left of it, from record i on, answers r
 
-module _ (rs ps : List ℕ) (i : ℕ) where
+module _ (rs : List ℕ) (ps : Paths) (i : ℕ) where
   pub follows-first : i ≡ 0 → true ≡ followsAt rs ps i
   unfolding followsAt
   follows-first e = sym (rw (eq-eqb i 0 e))
@@ -323,11 +324,11 @@ module _ (rs ps : List ℕ) (i : ℕ) where
     pub follows-greater : o ≡ Greater → false ≡ followsAt rs ps i
     follows-greater q = sym (follows-by ∙ ap isLess q)
 
-pub verify-start : (rs ps : List ℕ) (n : ℕ) → n ≡ recordsIn rs → verifyFrom rs ps (n - 0) 0 ≡ verifyAt rs ps
+pub verify-start : (rs : List ℕ) (ps : Paths) (n : ℕ) → n ≡ recordsIn rs → verifyFrom rs ps (n - 0) 0 ≡ verifyAt rs ps
 unfolding verifyAt
 verify-start rs ps n e = rw (sub-zero n, e)
 
-module _ (rs ps : List ℕ) (n i : ℕ) (r : Verified) (inv : verifyFrom rs ps (n - i) i ≡ r) where
+module _ (rs : List ℕ) (ps : Paths) (n i : ℕ) (r : Verified) (inv : verifyFrom rs ps (n - i) i ≡ r) where
   pub verify-done : n ≤ i → Sorted ≡ r
   unfolding verifyFrom
   verify-done h = let z : n - i ≡ 0 = omega arith in sym (rw z) ∙ inv
@@ -351,7 +352,7 @@ module _ (rs ps : List ℕ) (n i : ℕ) (r : Verified) (inv : verifyFrom rs ps (
 
 -- ---- one record, as lookup sees it
 
-module _ (rs ps key : List ℕ) (stage i : ℕ) (t : Bool) (et : t ≡ liesInside rs ps i) where
+module _ (rs : List ℕ) (ps : Paths) (key : List ℕ) (stage i : ℕ) (t : Bool) (et : t ≡ liesInside rs ps i) where
   pub probe-outside : t ≡ false → Outside ≡ probeAt rs ps key stage i
   unfolding probeAt
   probe-outside q = sym (rw (← et, q))
@@ -397,11 +398,11 @@ pub found-up : (p : ℕ → Probe) (n low high k m : ℕ) (r : Found) → halve 
     → halve p (n - (k + 1)) low m (k + 1) ≡ r
 found-up p n low high k m r inv w l a e q o y z = rw q (found-high p n low high k r inv w l a (rw q at e) o y z)
 
-pub search-start : (rs ps key : List ℕ) (stage n high : ℕ) → n ≡ recordsIn rs → high ≡ n → halve (probeAt rs ps key stage) (n - 0) 0 high 0 ≡ searchAt rs ps key stage
+pub search-start : (rs : List ℕ) (ps : Paths) (key : List ℕ) (stage n high : ℕ) → n ≡ recordsIn rs → high ≡ n → halve (probeAt rs ps key stage) (n - 0) 0 high 0 ≡ searchAt rs ps key stage
 unfolding searchAt
 search-start rs ps key stage n high e h = rw (h, sub-zero n, e)
 
-module _ (rs ps key : List ℕ) (stage : ℕ) where
+module _ (rs : List ℕ) (ps : Paths) (key : List ℕ) (stage : ℕ) where
   pub lookup-far : 3 < stage → NoStage ≡ lookupAt rs ps key stage
   unfolding lookupAt
   lookup-far h = sym (rw (lt-ltb 3 stage h))

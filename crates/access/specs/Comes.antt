@@ -9,6 +9,7 @@ use Prim.Native.Nat.{ℕ, zero, suc, _+_, _-_, _/_, _≤_, _<_}
 use native.Mathlib.Omega.{arith}
 use Rattle.laws.specs.Pick.{pick}
 use Rattle.laws.specs.Tests.{lt-or-ge}
+use Rattle.entry.specs.Paths.{Paths}
 use Rattle.entry.specs.Record.{recordsIn, stageAt, liesInside, pathAt}
 use Rattle.access.specs.Order.{Precedes, placed, Places, is-less, is-same, is-greater, places, precedes-less, precedes-greater}
 use Rattle.access.specs.Lookup.{highestStage, probeAt, turn, halve, searchAt, lookupAt}
@@ -29,7 +30,7 @@ middle low high = (low + high) / 2
 
 -- the records from low on and before high are what is left at some turn: "low 0, high n", and where the record in the middle has its path in its store,
 -- "smaller record sets low to middle + 1, larger sets high to middle"
-pub data ComesTo (rs ps key : List ℕ) (stage : ℕ) : ℕ → ℕ → Type 0 where
+pub data ComesTo (rs : List ℕ) (ps : Paths) (key : List ℕ) (stage : ℕ) : ℕ → ℕ → Type 0 where
   all-records : ComesTo rs ps key stage 0 (recordsIn rs)
   past-smaller : {low high : ℕ} → ComesTo rs ps key stage low high → low < high → Lies rs ps (middle low high)
       → Precedes (pathAt rs ps (middle low high)) (stageAt rs (middle low high)) key stage → ComesTo rs ps key stage (middle low high + 1) high
@@ -37,12 +38,12 @@ pub data ComesTo (rs ps key : List ℕ) (stage : ℕ) : ℕ → ℕ → Type 0 w
       → Precedes key stage (pathAt rs ps (middle low high)) (stageAt rs (middle low high)) → ComesTo rs ps key stage low (middle low high)
 
 -- record i is one that is compared: at some turn records are left, and it is in the middle of them
-abbrev pub IsCompared : List ℕ → List ℕ → List ℕ → ℕ → ℕ → Type 0
+abbrev pub IsCompared : List ℕ → Paths → List ℕ → ℕ → ℕ → Type 0
 IsCompared rs ps key stage i = (low high : ℕ) × ComesTo rs ps key stage low high × (low < high) × (i ≡ middle low high)
 
 -- ---- what the record in the middle says
 
-module _ (rs ps key : List ℕ) (stage : ℕ) where
+module _ (rs : List ℕ) (ps : Paths) (key : List ℕ) (stage : ℕ) where
   data Stands (m : ℕ) : Probe → Type 0 where
     outside : (Lies rs ps m → ⊥) → Stands m Outside
     smaller : Lies rs ps m → Precedes (pathAt rs ps m) (stageAt rs m) key stage → Stands m (Is Less)

@@ -7,6 +7,7 @@ use Prim.Native.Nat.{ℕ, zero, suc, _+_, _-_, _/_, _≤_, _<_}
 use native.Mathlib.Omega.{arith}
 use borrow.Author.Tests.{lt-ltb, le-ltb}
 use Rattle.laws.specs.Tests.{lt-or-ge, tri}
+use Rattle.entry.specs.Paths.{Paths}
 use Rattle.entry.specs.Record.{recordsIn, stageAt, pathAt}
 use Rattle.access.specs.Order.{precedes-transitive, precedes-irreflexive, placed, precedes-less, precedes-greater, same-equal, less-precedes, equal-same, greater-precedes}
 use Rattle.access.specs.Lookup.{highestStage, probeAt, turn, halve, searchAt, lookupAt}
@@ -20,7 +21,7 @@ use Rattle.access.specs.declared.Found.{Found}
 use Rattle.access.specs.declared.Found.the-variants.{At, Absent, NoStage, PathOutside}
 
 -- record i has that path and stage
-pub record Has (rs ps key : List ℕ) (stage i : ℕ) : Type 0 where
+pub record Has (rs : List ℕ) (ps : Paths) (key : List ℕ) (stage i : ℕ) : Type 0 where
   pub there : i < recordsIn rs
   pub path : pathAt rs ps i ≡ key
   pub level : stageAt rs i ≡ stage
@@ -68,7 +69,7 @@ halved p n (suc f) low high k h =
 
 -- ---- any table: when 11 and 12 are said
 
-module _ (rs ps key : List ℕ) (stage : ℕ) where
+module _ (rs : List ℕ) (ps : Paths) (key : List ℕ) (stage : ℕ) where
   pub near : stage ≤ highestStage → lookupAt rs ps key stage ≡ searchAt rs ps key stage
   unfolding lookupAt
   near h = rw (le-ltb highestStage stage h)
@@ -134,7 +135,7 @@ absent-none p n r (suc f) low high k k′ w hn t i li ih q =
 
 -- ---- a strictly sorted table
 
-module _ (rs ps : List ℕ) (sorted : StrictlySorted rs ps) where
+module _ (rs : List ℕ) (ps : Paths) (sorted : StrictlySorted rs ps) where
   -- there is at most one
   pub at-most-one : (key : List ℕ) (stage i j : ℕ) → Has rs ps key stage i → Has rs ps key stage j → i ≡ j
   at-most-one key stage i j a b =

@@ -4,6 +4,7 @@ use mathlib.Core.List.{List, [], _∷_}
 use lib.Dec.{ltb}
 use Rattle.laws.specs.Pick.{pick}
 use Rattle.refusal.specs.Refusal.{no-stage, path-outside}
+use Rattle.entry.specs.Paths.{Paths}
 use Rattle.entry.specs.Record.{recordsIn, stageAt, liesInside, pathAt}
 use Rattle.access.specs.Order.{placed}
 use Rattle.access.specs.declared.order.Order.the-variants.{Less, Equal, Greater}
@@ -16,7 +17,7 @@ abbrev pub highestStage : ℕ
 highestStage = 3
 
 -- how record i stands to the path and stage that are looked for
-unfoldable pub probeAt : List ℕ → List ℕ → List ℕ → ℕ → ℕ → Probe
+unfoldable pub probeAt : List ℕ → Paths → List ℕ → ℕ → ℕ → Probe
 probeAt rs ps key stage i = pick (liesInside rs ps i) (Is (placed (pathAt rs ps i) (stageAt rs i) key stage)) Outside
 
 -- one turn: what the record in the middle m says, with `more` for what is left
@@ -35,10 +36,10 @@ halve p (suc f) low high k =
     (Absent k)
 
 -- a table of n records needs no more than n turns
-unfoldable pub searchAt : List ℕ → List ℕ → List ℕ → ℕ → Found
+unfoldable pub searchAt : List ℕ → Paths → List ℕ → ℕ → Found
 searchAt rs ps key stage = halve (probeAt rs ps key stage) (recordsIn rs) 0 (recordsIn rs) 0
 
-unfoldable pub lookupAt : List ℕ → List ℕ → List ℕ → ℕ → Found
+unfoldable pub lookupAt : List ℕ → Paths → List ℕ → ℕ → Found
 lookupAt rs ps key stage = pick (ltb highestStage stage) NoStage (searchAt rs ps key stage)
 
 -- ---- the rule's own steps: how many records it compares

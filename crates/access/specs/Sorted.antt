@@ -10,6 +10,7 @@ use lib.ListN.{length}
 use borrow.Author.Tests.{le-leb, leb-true, eq-eqb, ne-eqb}
 use Rattle.laws.specs.Pick.{pick}
 use Rattle.laws.specs.Tests.{lt-or-ge, tri}
+use Rattle.entry.specs.Paths.{Paths}
 use Rattle.entry.specs.Record.{recordsIn, startAt, endAt, stageAt, liesInside, pathAt}
 use Rattle.entry.specs.Laws.{inside-crossed, inside-is}
 use Rattle.access.specs.Order.{Precedes, precedes-transitive, placed, precedes-less, less-precedes}
@@ -19,48 +20,48 @@ use Rattle.access.specs.declared.order.Order.the-variants.{Less, Equal, 
 use Rattle.access.specs.declared.verify.Verified.{Verified}
 use Rattle.access.specs.declared.verify.Verified.the-variants.{Sorted, PathOutside, NotAfter}
 
--- the path of record i lies in the path store
-abbrev pub Lies : List ℕ → List ℕ → ℕ → Type 0
-Lies rs ps i = (startAt rs i ≤ endAt rs i) × (endAt rs i ≤ length ps)
+-- the path of record i lies where paths lie
+abbrev pub Lies : List ℕ → Paths → ℕ → Type 0
+Lies rs ps i = (startAt rs i ≤ endAt rs i) × (endAt rs i ≤ length (ps .store))
 
 -- record j comes strictly after record i
-abbrev pub After : List ℕ → List ℕ → ℕ → ℕ → Type 0
+abbrev pub After : List ℕ → Paths → ℕ → ℕ → Type 0
 After rs ps i j = Precedes (pathAt rs ps i) (stageAt rs i) (pathAt rs ps j) (stageAt rs j)
 
 -- every path lies in the store, and each record comes strictly after the one before
-pub record StrictlySorted (rs ps : List ℕ) : Type 0 where
+pub record StrictlySorted (rs : List ℕ) (ps : Paths) : Type 0 where
   pub inside : (i : ℕ) → i < recordsIn rs → Lies rs ps i
   pub rising : (i : ℕ) → i + 1 < recordsIn rs → After rs ps i (i + 1)
 
 -- each record comes strictly after all that stand before it
-pub rises : (rs ps : List ℕ) → StrictlySorted rs ps → (d i : ℕ) → i + (1 + d) < recordsIn rs → After rs ps i (i + (1 + d))
+pub rises : (rs : List ℕ) (ps : Paths) → StrictlySorted rs ps → (d i : ℕ) → i + (1 + d) < recordsIn rs → After rs ps i (i + (1 + d))
 rises rs ps s zero i h = s .rising i h
 rises rs ps s (suc d) i h =
     let q : i + (1 + suc d) ≡ i + (1 + d) + 1 = omega arith in
     rw q (precedes-transitive (rises rs ps s d i (omega arith)) (s .rising (i + (1 + d)) (omega arith)))
 
-pub in-order : (rs ps : List ℕ) → StrictlySorted rs ps → (i j : ℕ) → i < j → j < recordsIn rs → After rs ps i j
+pub in-order : (rs : List ℕ) (ps : Paths) → StrictlySorted rs ps → (i j : ℕ) → i < j → j < recordsIn rs → After rs ps i j
 in-order rs ps s i j h k = let q : j ≡ i + (1 + (j - i - 1)) = omega arith in rw q (rises rs ps s (j - i - 1) i (omega arith))
 
 -- ---- one record: what it lacks
 
 -- record i comes after the one before, if there is one
-abbrev pub Follows : List ℕ → List ℕ → ℕ → Type 0
+abbrev pub Follows : List ℕ → Paths → ℕ → Type 0
 Follows rs ps i = 0 < i → After rs ps (i - 1) i
 
-abbrev pub Passes : List ℕ → List ℕ → ℕ → Type 0
+abbrev pub Passes : List ℕ → Paths → ℕ → Type 0
 Passes rs ps i = Lies rs ps i × Follows rs ps i
 
 unlike : true ≡ false → ⊥
 unlike e = let z : _≡_ {A = ℕ} 0 1 = cc in omega arith
 
-module _ (rs ps : List ℕ) (i : ℕ) where
+module _ (rs : List ℕ) (ps : Paths) (i : ℕ) where
   pub lies-yes : i < recordsIn rs → Lies rs ps i → liesInside rs ps i ≡ true
-  lies-yes h l = sym (inside-is rs ps i h (startAt rs i) (endAt rs i) refl refl (l .0)) ∙ le-leb (endAt rs i) (length ps) (l .1)
+  lies-yes h l = sym (inside-is rs (ps .store) i h (startAt rs i) (endAt rs i) refl refl (l .0)) ∙ le-leb (endAt rs i) (length (ps .store)) (l .1)
 
   pub yes-lies : i < recordsIn rs → liesInside rs ps i ≡ true → Lies rs ps i
   yes-lies h e =
-      ⊎-elim (λ k. absurd (unlike (sym (inside-crossed rs ps i h (startAt rs i) (endAt rs i) refl refl k ∙ e)))) (λ k. (k, leb-true (endAt rs i) (length ps) (inside-is rs ps i h (startAt rs i) (endAt rs i) refl refl k ∙ e))) (lt-or-ge (endAt rs i) (startAt rs i))
+      ⊎-elim (λ k. absurd (unlike (sym (inside-crossed rs ps i h (startAt rs i) (endAt rs i) refl refl k ∙ e)))) (λ k. (k, leb-true (endAt rs i) (length (ps .store)) (inside-is rs (ps .store) i h (startAt rs i) (endAt rs i) refl refl k ∙ e))) (lt-or-ge (endAt rs i) (startAt rs i))
 
   follows-later : 0 < i → followsAt rs ps i ≡ isLess (placed (pathAt rs ps (i - 1)) (stageAt rs (i - 1)) (pathAt rs ps i) (stageAt rs i))
   unfolding followsAt
@@ -83,12 +84,12 @@ module _ (rs ps : List ℕ) (i : ℕ) where
 
 -- ---- what each answer says, and that the check gives the one that holds
 
-pub data Says (rs ps : List ℕ) : Verified → Type 0 where
+pub data Says (rs : List ℕ) (ps : Paths) : Verified → Type 0 where
   says-sorted : ((j : ℕ) → j < recordsIn rs → Passes rs ps j) → Says rs ps Sorted
   says-outside : (i : ℕ) → i < recordsIn rs → ((j : ℕ) → j < i → Passes rs ps j) → (Lies rs ps i → ⊥) → Says rs ps (PathOutside i)
   says-not-after : (i : ℕ) → i < recordsIn rs → ((j : ℕ) → j < i → Passes rs ps j) → Lies rs ps i → (Follows rs ps i → ⊥) → Says rs ps (NotAfter i)
 
-module _ (rs ps : List ℕ) where
+module _ (rs : List ℕ) (ps : Paths) where
   one-more : (i : ℕ) → ((j : ℕ) → j < i → Passes rs ps j) → Passes rs ps i → (j : ℕ) → j < i + 1 → Passes rs ps j
   one-more i good here j h = ⊎-elim (λ l. good j l) (λ l. let e : j ≡ i = omega arith in rw e here) (lt-or-ge j i)
 

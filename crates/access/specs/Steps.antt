@@ -12,6 +12,7 @@ use lib.Dec.{ltb}
 use borrow.Author.Tests.{lt-ltb, le-ltb}
 use Rattle.laws.specs.Pick.{pick}
 use Rattle.laws.specs.Tests.{lt-or-ge, Less, less, not-less, less?}
+use Rattle.entry.specs.Paths.{Paths}
 use Rattle.entry.specs.Record.{recordsIn}
 use Rattle.access.specs.Lookup.{highestStage, probeAt, turn, halve, searchAt, lookupAt, stepsAfter, steps}
 use Rattle.access.specs.declared.order.Order.the-variants as order
@@ -114,10 +115,10 @@ few-steps p (suc f) (suc m) low high h =
 -- ---- of a lookup
 
 -- the halving rule's steps in a table
-abbrev pub lookupSteps : List ℕ → List ℕ → List ℕ → ℕ → ℕ
+abbrev pub lookupSteps : List ℕ → Paths → List ℕ → ℕ → ℕ
 lookupSteps rs ps key stage = steps (probeAt rs ps key stage) (recordsIn rs) 0 (recordsIn rs)
 
-module _ (rs ps key : List ℕ) (stage : ℕ) where
+module _ (rs : List ℕ) (ps : Paths) (key : List ℕ) (stage : ℕ) where
   lookup-counts : countOr (lookupSteps rs ps key stage) (lookupAt rs ps key stage) ≡ lookupSteps rs ps key stage
   unfolding lookupAt searchAt
   lookup-counts = by (ltb highestStage stage)

@@ -5,6 +5,7 @@ use mathlib.Core.List.{List, [], _∷_}
 use lib.Dec.{eqb}
 use Rattle.laws.specs.Pick.{pick}
 use Rattle.refusal.specs.Refusal.{path-outside, not-after}
+use Rattle.entry.specs.Paths.{Paths}
 use Rattle.entry.specs.Record.{recordsIn, stageAt, liesInside, pathAt}
 use Rattle.access.specs.Order.{placed}
 use Rattle.access.specs.declared.order.Order.{Order}
@@ -18,15 +19,15 @@ isLess Equal = false
 isLess Greater = false
 
 -- whether record i is strictly after the one before; the first one is
-unfoldable pub followsAt : List ℕ → List ℕ → ℕ → Bool
+unfoldable pub followsAt : List ℕ → Paths → ℕ → Bool
 followsAt rs ps i = pick (eqb i 0) true (isLess (placed (pathAt rs ps (i - 1)) (stageAt rs (i - 1)) (pathAt rs ps i) (stageAt rs i)))
 
 -- f records, from record i on
-unfoldable pub verifyFrom : List ℕ → List ℕ → ℕ → ℕ → Verified
+unfoldable pub verifyFrom : List ℕ → Paths → ℕ → ℕ → Verified
 verifyFrom rs ps zero i = Sorted
 verifyFrom rs ps (suc f) i = pick (liesInside rs ps i) (pick (followsAt rs ps i) (verifyFrom rs ps f (i + 1)) (NotAfter i)) (PathOutside i)
 
-unfoldable pub verifyAt : List ℕ → List ℕ → Verified
+unfoldable pub verifyAt : List ℕ → Paths → Verified
 verifyAt rs ps = verifyFrom rs ps (recordsIn rs) 0
 
 -- 01's number of an answer, 0 where nothing is refused, and the record that a refusal carries

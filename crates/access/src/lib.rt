@@ -1,5 +1,6 @@
 // Looking a record up by its path and its stage.
 ghost use mathlib.Core.Path.{_≡_};
+ghost use Rattle.entry.specs.Paths.{lyingIn};
 ghost use Rattle.access.specs.Order.{placed};
 ghost use Rattle.access.specs.Lookup.{probeAt, searchAt, lookupAt};
 use order::Order;
@@ -31,7 +32,7 @@ fn placed(a: &[u8], g: u32, b: &[u8], h: u32) -> Order
 }
 
 fn probe_at(records: &[u8], paths: &[u8], key: &[u8], stage: u32, i: usize) -> Probe
-    ensures { λ r. ⌜ r ≡ probeAt (now (records .entry)) (now (paths .entry)) (now (key .entry)) stage i ⌝ }
+    ensures { λ r. ⌜ r ≡ probeAt (now (records .entry)) (lyingIn (now (paths .entry))) (now (key .entry)) stage i ⌝ }
 {
     let inside = entry::lies_inside(records, paths, i);
     if inside {
@@ -45,7 +46,7 @@ fn probe_at(records: &[u8], paths: &[u8], key: &[u8], stage: u32, i: usize) -> P
 
 // Halves what is left of the table until the record is found or nothing is left.
 fn search(records: &[u8], paths: &[u8], key: &[u8], stage: u32) -> Found
-    ensures { λ r. ⌜ r ≡ searchAt (now (records .entry)) (now (paths .entry)) (now (key .entry)) stage ⌝ }
+    ensures { λ r. ⌜ r ≡ searchAt (now (records .entry)) (lyingIn (now (paths .entry))) (now (key .entry)) stage ⌝ }
 {
     let n = entry::records_in(records);
     let mut low: usize = 0;
@@ -80,7 +81,7 @@ fn search(records: &[u8], paths: &[u8], key: &[u8], stage: u32) -> Found
 
 // The record that has this path and this stage.
 pub fn lookup(records: &[u8], paths: &[u8], key: &[u8], stage: u32) -> Found
-    ensures { λ r. ⌜ r ≡ lookupAt (now (records .entry)) (now (paths .entry)) (now (key .entry)) stage ⌝ }
+    ensures { λ r. ⌜ r ≡ lookupAt (now (records .entry)) (lyingIn (now (paths .entry))) (now (key .entry)) stage ⌝ }
 {
     match stage {
         0..=3 => search(records, paths, key, stage),

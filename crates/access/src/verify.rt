@@ -1,5 +1,6 @@
 // Whether a table is in order: every path lies in the path store, and each record is strictly after the one before.
 ghost use mathlib.Core.Path.{_≡_};
+ghost use Rattle.entry.specs.Paths.{lyingIn};
 ghost use Rattle.access.specs.Verify.{followsAt, verifyAt};
 use super::order::Order;
 
@@ -12,7 +13,7 @@ pub enum Verified {
 
 // Whether record i is strictly after the one before; the first one is.
 fn follows(records: &[u8], paths: &[u8], i: usize) -> bool
-    ensures { λ r. ⌜ r ≡ followsAt (now (records .entry)) (now (paths .entry)) i ⌝ }
+    ensures { λ r. ⌜ r ≡ followsAt (now (records .entry)) (lyingIn (now (paths .entry))) i ⌝ }
 {
     if i == 0 {
         return true;
@@ -34,7 +35,7 @@ fn follows(records: &[u8], paths: &[u8], i: usize) -> bool
 }
 
 pub fn verify_entries(records: &[u8], paths: &[u8]) -> Verified
-    ensures { λ r. ⌜ r ≡ verifyAt (now (records .entry)) (now (paths .entry)) ⌝ }
+    ensures { λ r. ⌜ r ≡ verifyAt (now (records .entry)) (lyingIn (now (paths .entry))) ⌝ }
 {
     let n = entry::records_in(records);
     let mut i: usize = 0;

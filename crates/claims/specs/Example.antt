@@ -8,7 +8,8 @@ use native.Mathlib.Omega.{arith}
 use lib.Dec.{lit≤, lit<}
 use lib.ListN.{length, replicate, length-append}
 use Rattle.laws.specs.Times.{done, more}
-use Rattle.format.specs.Format.{idSize}
+use Rattle.format.specs.Format.{idSize, depthLimit}
+use Rattle.kind.specs.Sha1.{sha1Kind}
 use Rattle.grammar.specs.Extension.{Ext, LastSigned, last-signed, bytesOf}
 use Rattle.file.specs.Read.{readFile}
 use Rattle.grammar.specs.File.{Index, File, space}
@@ -34,7 +35,7 @@ slices : Slices least-file paths nodes
 unfolding allBytes
 slices = record { bytes = bytes-if least-file refl; file = lit< tt; paths = lit< tt; nodes = lit< tt }
 
-good-trailer : GoodTrailer least-file
+good-trailer : GoodTrailer sha1Kind least-file
 good-trailer = zeros refl
 
 -- no entry comes before the first not spelled, for there is none
@@ -52,11 +53,11 @@ no-extension (f ∷ es) h before behind e q = omega arith
 pub none-last : {signature : List ℕ} {from : ℕ} {es : List Ext} {place : ℕ} {body : List ℕ} → LastSigned signature from es place body → bytesOf es ≡ 0 → ⊥
 none-last {es = es} (last-signed before {e = e} behind q s n) h = no-extension es h before behind e q
 
-tree-fits : TreeFits least-file nodes
+tree-fits : TreeFits sha1Kind least-file nodes
 tree-fits place body x =
     let empty : length (x .c) ≡ 0 = omega (arith, ap length (x .joins), length-append (x .b) (x .c)) in
     absurd (none-last (x .last) (sym (extensions-length (x .extensions)) ∙ empty))
 
 -- so the claims speak of it
-pub claimed : IsRead (readFile 20 64 least-file records paths nodes .answer) ↔ ((m : Index) × File idSize least-file m)
-claimed = accepted-exactly-if-spelled least-file records paths nodes slices good-trailer room tree-fits
+pub claimed : IsRead (readFile sha1Kind depthLimit least-file records paths nodes .answer) ↔ ((m : Index) × File idSize least-file m)
+claimed = accepted-exactly-if-spelled sha1Kind least-file records paths nodes slices good-trailer room tree-fits

@@ -12,9 +12,10 @@ use lib.Seq.{take-all, getD-take, length-take-le, take-append-le, drop-append-le
 use borrow.Author.Tests.{lt-ltb}
 use Rattle.laws.specs.Tests.{lt-or-ge}
 use Rattle.wire.specs.BigEndian.{beAt, be-same}
-use Rattle.format.specs.Format.{idSize}
+use Rattle.format.specs.Format.{idRoom}
 use Rattle.entry.specs.Layout.{recordSize, modePlace, idPlace, flagsPlace, startPlace, endPlace}
 use Rattle.entry.specs.Flags.{stageRaw}
+use Rattle.entry.specs.Paths.{Paths}
 use Rattle.entry.specs.Record.{recordsIn, fieldAt, flagsAt, idAt, liesInside, pathAt}
 use Rattle.entry.specs.Laws.{id-is}
 use Rattle.entry.specs.Stat.{statAt}
@@ -63,11 +64,11 @@ module _ (n : ℕ) (rs : List ℕ) (i : ℕ) (h : i < n) where
       (λ (m, e). id-is w firstRecords i (omega (arith, e)) ∙ part-first w (n * recordSize) rs (i * recordSize + idPlace) (omega arith) e ∙ sym (id-is w rs i (omega arith)))
       (all-or-cut (n * recordSize) rs)
 
-  pub inside-first : (ps : List ℕ) → liesInside firstRecords ps i ≡ liesInside rs ps i
+  pub inside-first : (ps : Paths) → liesInside firstRecords ps i ≡ liesInside rs ps i
   unfolding liesInside
   inside-first ps = rw (record-there, field-first 8 startPlace (lit≤ tt), field-first 8 endPlace (lit≤ tt))
 
-  pub path-first : (ps : List ℕ) → pathAt firstRecords ps i ≡ pathAt rs ps i
+  pub path-first : (ps : Paths) → pathAt firstRecords ps i ≡ pathAt rs ps i
   unfolding pathAt
   path-first ps = rw (inside-first ps, field-first 8 startPlace (lit≤ tt), field-first 8 endPlace (lit≤ tt))
 
@@ -77,14 +78,14 @@ module _ (n : ℕ) (rs : List ℕ) (i : ℕ) (h : i < n) where
       rw (f 0 (lit≤ tt), f 4 (lit≤ tt), f 8 (lit≤ tt), f 12 (lit≤ tt), f 16 (lit≤ tt), f 20 (lit≤ tt), f 28 (lit≤ tt), f 32 (lit≤ tt), f 36 (lit≤ tt))
 
   -- so what a record shows it shows among the first
-  pub shown-first : {ps : List ℕ} {m : Meaning} → Shows idSize rs ps i m → Shows idSize firstRecords ps i m
-  shown-first {ps} x =
+  pub shown-first : {id : ℕ} → id ≤ idRoom → {ps : Paths} {m : Meaning} → Shows id rs ps i m → Shows id firstRecords ps i m
+  shown-first {id} fits {ps} x =
       let f : flagsAt firstRecords i ≡ flagsAt rs i = field-first 4 flagsPlace (lit≤ tt) in
       record {
         there = ⊎-elim (λ e. ap-there e) (λ (m, e). omega (arith, e)) (all-or-cut (n * recordSize) rs);
         stat = stat-first ∙ x .stat;
         mode = field-first 4 modePlace (lit≤ tt) ∙ x .mode;
-        id = id-first idSize (lit≤ tt) ∙ x .id;
+        id = id-first id (omega arith) ∙ x .id;
         flags = f ∙ x .flags;
         stage = ap stageRaw f ∙ x .stage;
         start = x .start;
@@ -102,8 +103,8 @@ entry-there [] i m e = let z : _≡_ {A = ℕ} 0 1 = cc in absurd (omega arith)
 entry-there (o ∷ ms) zero m e = omega arith
 entry-there (o ∷ ms) (suc i) m e = omega (arith, entry-there ms i m e)
 
-pub each-shown-first : (n : ℕ) (rs ps : List ℕ) (ms : List Meaning) → length ms ≤ n → EachShown rs ps ms → EachShown (take (n * recordSize) rs) ps ms
-each-shown-first n rs ps ms h shown i m e = shown-first n rs i (omega (arith, entry-there ms i m e)) (shown i m e)
+pub each-shown-first : {id : ℕ} → id ≤ idRoom → (n : ℕ) (rs : List ℕ) (ps : Paths) (ms : List Meaning) → length ms ≤ n → EachShown id rs ps ms → EachShown id (take (n * recordSize) rs) ps ms
+each-shown-first fits n rs ps ms h shown i m e = shown-first n rs i (omega (arith, entry-there ms i m e)) fits (shown i m e)
 
 -- ---- the first n nodes
 
@@ -142,7 +143,7 @@ module _ (n : ℕ) (ns : List ℕ) (i : ℕ) (h : i < n) where
         counts = word-first node.countPlace (lit≤ tt) ∙ x .counts;
         subtrees-there = word-first node.subtreesPlace (lit≤ tt) ∙ x .subtrees-there;
         parented = word-first node.parentPlace (lit≤ tt) ∙ x .parented;
-        identified = node-id-first node.idRoom (lit≤ tt) ∙ x .identified;
+        identified = node-id-first idRoom (lit≤ tt) ∙ x .identified;
       }
 
 module _ (n : ℕ) (s ns : List ℕ) where

@@ -1,9 +1,9 @@
--- The header and the trailer: what `headerAt` and `goodTrailer`, which the reader's contract cites, say in the grammar's terms. Assumes that the file is bytes.
+-- The header: what `headerAt`, which the reader's contract cites, says in the grammar's terms, over the length of an id. Assumes that the file is bytes.
 use Prim.Native.Nat.{ℕ, _+_, _≤_, _<_}
 use mathlib.Core.Path.{_≡_, refl, sym, ap, _∙_}
-use mathlib.Core.Bool.{Bool, true}
+use mathlib.Core.Bool.{Bool}
 use mathlib.Core.List.{List}
-use mathlib.Core.Logic.{_↔_, ⊎-elim}
+use mathlib.Core.Logic.{⊎-elim}
 use native.Mathlib.Omega.{arith}
 use lib.Dec.{eqb}
 use lib.ListN.{length, take, drop, take-append-drop}
@@ -11,51 +11,32 @@ use lib.Seq.{length-take-le}
 use Rattle.laws.specs.Pick.{pick}
 use Rattle.laws.specs.Tests.{lt-or-ge, Less, less, not-less, less?, Same, same, differs, same?}
 use Rattle.wire.specs.BigEndian.{beAt}
-use Rattle.format.specs.Format.{idSize}
 use Rattle.decode.specs.Header.{signature, onVersion, headerAt}
 use Rattle.decode.specs.declared.header.Header.{Header as Opening}
 use Rattle.decode.specs.declared.header.Header.the-variants.{Opens, ShortFile, NoSignature, OtherVersion}
-use Rattle.file.specs.Trailer.{goodTrailer, Good, good-exactly}
-use Rattle.file.specs.Trailer as trailers
 use Rattle.grammar.specs.Number.{bigEndian}
 use Rattle.grammar.specs.File.{DIRC, headerLength, Supported, versionOf, countOf, GoodHeader}
 use Rattle.claims_entries.specs.Parts.{be-is}
 use Rattle.claims_entries.specs.Rendering.{Bytes}
 use Rattle.claims_entries.specs.Fields.{bytes-left}
 use Rattle.claims_extension.specs.Words.{allBytes, bytes-if, FourBytes, signature-injective}
-use Rattle.claims.specs.Premises.{GoodTrailer, zeros, hashed}
-
--- ---- the trailer
-
-pub trailer-exactly : (s : List ℕ) → (goodTrailer idSize s ≡ true) ↔ GoodTrailer s
-trailer-exactly s = ((λ e. to (good-exactly s .0 e)), (λ g. good-exactly s .1 (from g)))
-  where
-    to : Good s → GoodTrailer s
-    to (trailers.zeros e) = zeros e
-    to (trailers.hashed e) = hashed e
-
-    from : GoodTrailer s → Good s
-    from (zeros e) = trailers.zeros e
-    from (hashed e) = trailers.hashed e
-
--- ---- the header
 
 -- what each answer says
-pub data SaysHeader (s : List ℕ) : Opening → Type 0 where
+pub data SaysHeader (id : ℕ) (s : List ℕ) : Opening → Type 0 where
   -- 1
-  says-short : length s < headerLength + idSize → SaysHeader s ShortFile
+  says-short : length s < headerLength + id → SaysHeader id s ShortFile
   -- 2
-  says-no-signature : headerLength + idSize ≤ length s → (take 4 s ≡ DIRC → ⊥) → SaysHeader s NoSignature
+  says-no-signature : headerLength + id ≤ length s → (take 4 s ≡ DIRC → ⊥) → SaysHeader id s NoSignature
   -- 3
-  says-other-version : headerLength + idSize ≤ length s → take 4 s ≡ DIRC → (Supported (versionOf s) → ⊥) → SaysHeader s (OtherVersion (versionOf s))
-  says-opens : GoodHeader idSize s → SaysHeader s (Opens (versionOf s) (countOf s))
+  says-other-version : headerLength + id ≤ length s → take 4 s ≡ DIRC → (Supported (versionOf s) → ⊥) → SaysHeader id s (OtherVersion (versionOf s))
+  says-opens : GoodHeader id s → SaysHeader id s (Opens (versionOf s) (countOf s))
 
 -- "DIRC" as bytes
 dirc-bytes : FourBytes DIRC
 unfolding allBytes
 dirc-bytes = record { four = refl; small = bytes-if DIRC refl }
 
-module _ (s : List ℕ) (bytes : Bytes s) where
+module _ (id : ℕ) (s : List ℕ) (bytes : Bytes s) where
   first-four : 4 ≤ length s → FourBytes (take 4 s)
   first-four h = record { four = length-take-le 4 s h; small = bytes-left (take 4 s) (drop 4 s) (rw (take-append-drop 4 s) bytes) }
 
@@ -65,14 +46,14 @@ module _ (s : List ℕ) (bytes : Bytes s) where
   unsigned : 4 ≤ length s → (beAt 4 s 0 ≡ signature → ⊥) → take 4 s ≡ DIRC → ⊥
   unsigned h d e = d (sym (be-is 4 s 0 h) ∙ ap bigEndian e)
 
-  version-says : headerLength + idSize ≤ length s → take 4 s ≡ DIRC → SaysHeader s (onVersion (versionOf s) (countOf s))
+  version-says : headerLength + id ≤ length s → take 4 s ≡ DIRC → SaysHeader id s (onVersion (versionOf s) (countOf s))
   unfolding onVersion
   version-says h d = two (same? (versionOf s) 2)
     where
-      opens : 2 ≤ versionOf s → versionOf s ≤ 4 → SaysHeader s (Opens (versionOf s) (countOf s))
+      opens : 2 ≤ versionOf s → versionOf s ≤ 4 → SaysHeader id s (Opens (versionOf s) (countOf s))
       opens a b = says-opens (record { long = h; signature = d; version = record { oldest = a; newest = b } })
 
-      four : {t : Bool} → (versionOf s ≡ 2 → ⊥) → (versionOf s ≡ 3 → ⊥) → Same (versionOf s) 4 t → SaysHeader s (pick t (Opens (versionOf s) (countOf s)) (OtherVersion (versionOf s)))
+      four : {t : Bool} → (versionOf s ≡ 2 → ⊥) → (versionOf s ≡ 3 → ⊥) → Same (versionOf s) 4 t → SaysHeader id s (pick t (Opens (versionOf s) (countOf s)) (OtherVersion (versionOf s)))
       four a b (same e) = opens (omega arith) (omega arith)
       four a b (differs c) = says-other-version h d (λ x. none (x .oldest) (x .newest) a b c)
         where
@@ -80,33 +61,33 @@ module _ (s : List ℕ) (bytes : Bytes s) where
           none p q x y z = ⊎-elim (λ (l : versionOf s < 3). x (omega arith)) (λ (l : 3 ≤ versionOf s). ⊎-elim (λ (m : versionOf s < 4). y (omega arith)) (λ (m : 4 ≤ versionOf s). z (omega arith)) (lt-or-ge (versionOf s) 4)) (lt-or-ge (versionOf s) 3)
 
       three : {t : Bool} → (versionOf s ≡ 2 → ⊥) → Same (versionOf s) 3 t
-          → SaysHeader s (pick t (Opens (versionOf s) (countOf s)) (pick (eqb (versionOf s) 4) (Opens (versionOf s) (countOf s)) (OtherVersion (versionOf s))))
+          → SaysHeader id s (pick t (Opens (versionOf s) (countOf s)) (pick (eqb (versionOf s) 4) (Opens (versionOf s) (countOf s)) (OtherVersion (versionOf s))))
       three a (same e) = opens (omega arith) (omega arith)
       three a (differs b) = four a b (same? (versionOf s) 4)
 
       two : {t : Bool} → Same (versionOf s) 2 t
-          → SaysHeader s (pick t (Opens (versionOf s) (countOf s)) (pick (eqb (versionOf s) 3) (Opens (versionOf s) (countOf s)) (pick (eqb (versionOf s) 4) (Opens (versionOf s) (countOf s)) (OtherVersion (versionOf s)))))
+          → SaysHeader id s (pick t (Opens (versionOf s) (countOf s)) (pick (eqb (versionOf s) 3) (Opens (versionOf s) (countOf s)) (pick (eqb (versionOf s) 4) (Opens (versionOf s) (countOf s)) (OtherVersion (versionOf s)))))
       two (same e) = opens (omega arith) (omega arith)
       two (differs a) = three a (same? (versionOf s) 3)
 
   -- of the answer that is given its rule holds
-  pub header-says : SaysHeader s (headerAt idSize s)
+  pub header-says : SaysHeader id s (headerAt id s)
   unfolding headerAt
-  header-says = long (less? (length s) (headerLength + idSize))
+  header-says = long (less? (length s) (headerLength + id))
     where
-      named : headerLength + idSize ≤ length s → {t : Bool} → Same (beAt 4 s 0) signature t → SaysHeader s (pick t (onVersion (beAt 4 s 4) (beAt 4 s 8)) NoSignature)
+      named : headerLength + id ≤ length s → {t : Bool} → Same (beAt 4 s 0) signature t → SaysHeader id s (pick t (onVersion (beAt 4 s 4) (beAt 4 s 8)) NoSignature)
       named h (same e) =
           let v : versionOf s ≡ beAt 4 s 4 = be-is 4 s 4 (omega arith) in
           let c : countOf s ≡ beAt 4 s 8 = be-is 4 s 8 (omega arith) in
           rw (← v, ← c) (version-says h (signed (omega arith) e))
       named h (differs d) = says-no-signature h (unsigned (omega arith) d)
 
-      long : {t : Bool} → Less (length s) (headerLength + idSize) t → SaysHeader s (pick t ShortFile (pick (eqb (beAt 4 s 0) signature) (onVersion (beAt 4 s 4) (beAt 4 s 8)) NoSignature))
+      long : {t : Bool} → Less (length s) (headerLength + id) t → SaysHeader id s (pick t ShortFile (pick (eqb (beAt 4 s 0) signature) (onVersion (beAt 4 s 4) (beAt 4 s 8)) NoSignature))
       long (less h) = says-short h
       long (not-less h) = named h (same? (beAt 4 s 0) signature)
 
 -- the rules leave one answer at most
-pub one-header : {s : List ℕ} {a b : Opening} → SaysHeader s a → SaysHeader s b → a ≡ b
+pub one-header : {id : ℕ} {s : List ℕ} {a b : Opening} → SaysHeader id s a → SaysHeader id s b → a ≡ b
 one-header (says-short h) (says-short k) = refl
 one-header (says-short h) (says-no-signature k d) = absurd (omega arith)
 one-header (says-short h) (says-other-version k d e) = absurd (omega arith)

@@ -12,8 +12,10 @@ use Rattle.wire.specs.Groups.{groupsIn, numberAt}
 use Rattle.wire.specs.declared.Number.{Number}
 use Rattle.wire.specs.declared.Number.the-variants.{Is, Cut, Over}
 use Rattle.format.specs.Format.{depthLimit, idSize}
+use Rattle.kind.specs.Sha1.{sha1Kind}
 use Rattle.entry.specs.Flags.{extendedToMemory}
 use Rattle.entry.specs.Mode.{keepMode}
+use Rattle.entry.specs.Paths.{Paths}
 use Rattle.entry.specs.Record.{recordOf, frontOf, restOf, fieldAt, liesInside, pathAt}
 use Rattle.measure.specs.declared.Measured.{Measured}
 use Rattle.measure.specs.declared.Measured.the-variants.{Entry, Short, Fault}
@@ -23,7 +25,7 @@ use Rattle.decode.specs.Entries.{run, least, readEntries}
 use Rattle.decode.specs.Bounds.{blockSize, minEntrySize, maxEntries}
 use Rattle.decode.specs.declared.entries.Extensions.the-variants.{NotTold}
 use Rattle.extension.specs.Iter.{stepAt, runBy, runAt, lastWhere}
-use Rattle.extension.specs.Decode.{sparseIn, judged, walkAt}
+use Rattle.extension.specs.Decode.{sparseIn, judged, allAt}
 use Rattle.access.specs.Verify.{followsAt, verifyFrom, verifyAt}
 use Rattle.access.specs.declared.verify.Verified.{Verified}
 use Rattle.access.specs.declared.verify.Verified.the-variants.{Sorted}
@@ -52,7 +54,7 @@ pub data Asked : Type 0 where
   -- how many entries there can be in a file of so many bytes
   fileSize : ℕ → Asked
   -- whether a record table over a path store is sorted
-  order : List ℕ → List ℕ → Asked
+  order : List ℕ → Paths → Asked
 
 pub data Said : Type 0 where
   -- 01's number, 0 where the file is read; the answer and what the three stores hold
@@ -126,7 +128,7 @@ flagsOf Short = refuses
 flagsOf Fault = refuses
 
 pub answer : Asked → Said
-answer (file s) = numbered (readFile idSize depthLimit s lentRecords lentPaths lentNodes)
+answer (file s) = numbered (readFile sha1Kind depthLimit s lentRecords lentPaths lentNodes)
 answer (plain n field) = lengths 62 n (whole (plainBytes n field) 3 0)
 answer (wider n field) = lengths 64 n (whole (widerBytes n field) 3 0)
 answer (groups s) = value (numberAt s 0 (length s))
@@ -195,5 +197,5 @@ pages =
 
 -- THE THEOREM
 pub marked-pages : map (λ (p : Page). answer (p .asked)) pages ≡ map (λ (p : Page). p .said) pages
-unfolding pages page pair pear ear answer table row paths recordOf frontOf restOf fieldAt liesInside pathAt keepMode laws.compared verifyAt verifyFrom followsAt measureAt headAt headWith extendedAt extendedToMemory beAt bytesOf paddedAt paddedTo wholeOf nulAt nulIn compressedAt keptOf suffixedAt numberAt groupsIn maxEntries blockSize minEntrySize readFile headerAt onVersion goodTrailer sameBytes entriesInto readEntries run least extensionsInto walkAt runAt runBy stepAt judged sparseIn lastWhere
+unfolding pages page pair pear ear answer table row paths recordOf frontOf restOf fieldAt liesInside pathAt keepMode laws.compared verifyAt verifyFrom followsAt measureAt headAt headWith extendedAt extendedToMemory beAt bytesOf paddedAt paddedTo wholeOf nulAt nulIn compressedAt keptOf suffixedAt numberAt groupsIn maxEntries blockSize minEntrySize readFile headerAt onVersion goodTrailer sameBytes entriesInto readEntries run least extensionsInto allAt runAt runBy stepAt judged sparseIn lastWhere
 marked-pages = refl

@@ -12,6 +12,7 @@ use lib.Seq.{length-take-le, take-length}
 use Rattle.laws.specs.Pick.{pick}
 use Rattle.laws.specs.Read.{Got, got, none as nothing, Begins, refuses as never-begins}
 use Rattle.format.specs.Format.{idSize}
+use Rattle.entry.specs.Paths.{Paths}
 use Rattle.access.specs.Sorted.{StrictlySorted}
 use Rattle.access.specs.Marked.{page-sorted}
 use Rattle.access.specs.declared.verify.Verified.the-variants.{Sorted}
@@ -64,7 +65,7 @@ pub data Spells : Asked → Said → Type 0 where
   kept-bits : {more flags : ℕ} (size : ℕ) (m : Meaning) → BeginsWith 3 start (bitsBytes more) size m → m .flags ≡ flags → Spells (bits more) (passes flags)
   no-bits : {more : ℕ} → BeginsWithNone 3 start (bitsBytes more) → Spells (bits more) refuses
   -- the order is over the accessors, since the grammar asks for none
-  in-order : {rs ps : List ℕ} → StrictlySorted rs ps → Spells (order rs ps) (checked Sorted)
+  in-order : {rs : List ℕ} {ps : Paths} → StrictlySorted rs ps → Spells (order rs ps) (checked Sorted)
 
 -- ---- the pages of which the grammar speaks
 

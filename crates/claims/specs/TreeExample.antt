@@ -10,6 +10,7 @@ use lib.Dec.{lit≤, lit<}
 use lib.ListN.{length, replicate}
 use Rattle.laws.specs.Times.{readTimes, done}
 use Rattle.format.specs.Format.{depthLimit, idSize}
+use Rattle.kind.specs.Sha1.{sha1Kind}
 use Rattle.entry.specs.Layout.{recordSize}
 use Rattle.node.specs.Head.{minusOne}
 use Rattle.node.specs.Store.{nodeSize}
@@ -55,7 +56,7 @@ slices : (ns : List ℕ) → length ns ≤ 2 * nodeSize → Slices with-tree pat
 unfolding allBytes
 slices ns h = record { bytes = bytes-if with-tree refl; file = lit< tt; paths = lit< tt; nodes = omega arith }
 
-good-trailer : GoodTrailer with-tree
+good-trailer : GoodTrailer sha1Kind with-tree
 good-trailer = zeros refl
 
 the-entry-spelled : Entries idSize 2 start 1 entryA (kept 0 (97 ∷ []) ∷ [])
@@ -72,22 +73,22 @@ room (suc (suc k)) ms rest h x = absurd (omega arith)
 
 -- ---- with room for two
 
-pub two-fit : TreeFits with-tree two-nodes
-two-fit = tree-fits-exactly with-tree two-nodes its-index (twoNodesAt 84) version-2 refl .1 (lit≤ tt, lit≤ tt)
+pub two-fit : TreeFits sha1Kind with-tree two-nodes
+two-fit = tree-fits-exactly sha1Kind with-tree two-nodes its-index (twoNodesAt 84) version-2 refl .1 (lit≤ tt, lit≤ tt)
 
-pub read-with-its-tree : readFile idSize depthLimit with-tree records paths two-nodes .answer ≡ Read 2 false true 1 1 2
+pub read-with-its-tree : readFile sha1Kind depthLimit with-tree records paths two-nodes .answer ≡ Read 2 false true 1 1 2
 unfolding pathsBytes
-read-with-its-tree = stores-are-the-meaning with-tree records paths two-nodes (slices two-nodes (lit≤ tt)) good-trailer room two-fit its-index version-2 .answer
+read-with-its-tree = stores-are-the-meaning sha1Kind with-tree records paths two-nodes (slices two-nodes (lit≤ tt)) good-trailer room two-fit its-index version-2 .answer
 
-pub both-are-shown : ShowsTree with-tree (readFile idSize depthLimit with-tree records paths two-nodes .nodes) minusOne 0 (twoNodesAt 84)
+pub both-are-shown : ShowsTree with-tree (readFile sha1Kind depthLimit with-tree records paths two-nodes .nodes) minusOne 0 (twoNodesAt 84)
 both-are-shown =
-    let (m, x, one, y, shown) = accepted-is-shown with-tree records paths two-nodes (slices two-nodes (lit≤ tt)) (_, _, _, _, _, _, read-with-its-tree) in
+    let (m, x, one, y, shown) = accepted-is-shown sha1Kind with-tree records paths two-nodes (slices two-nodes (lit≤ tt)) (_, _, _, _, _, _, read-with-its-tree) in
     shown .tree (twoNodesAt 84) (ap (λ (i : Index). i .tree) (sym (one its-index version-2)))
 
 -- ---- with room for one
 
-pub two-do-not-fit-one : ¬ TreeFits with-tree one-node
-two-do-not-fit-one fits = let (shallow, few) = tree-fits-exactly with-tree one-node its-index (twoNodesAt 84) version-2 refl .0 fits in omega arith
+pub two-do-not-fit-one : ¬ TreeFits sha1Kind with-tree one-node
+two-do-not-fit-one fits = let (shallow, few) = tree-fits-exactly sha1Kind with-tree one-node its-index (twoNodesAt 84) version-2 refl .0 fits in omega arith
 
-pub refused-with-10 : readFile idSize depthLimit with-tree records paths one-node .answer ≡ NoNodeRoom
-refused-with-10 = larger-is-refused-with-10 with-tree one-node its-index (twoNodesAt 84) version-2 refl records paths (slices one-node (lit≤ tt)) good-trailer room (lit≤ tt) (lit< tt)
+pub refused-with-10 : readFile sha1Kind depthLimit with-tree records paths one-node .answer ≡ NoNodeRoom
+refused-with-10 = larger-is-refused-with-10 sha1Kind with-tree one-node its-index (twoNodesAt 84) version-2 refl records paths (slices one-node (lit≤ tt)) good-trailer room (lit≤ tt) (lit< tt)

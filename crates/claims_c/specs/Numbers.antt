@@ -8,7 +8,8 @@ use native.Mathlib.Omega.{arith}
 use lib.Dec.{eqb, lit≤}
 use Rattle.laws.specs.Pick.{pick}
 use Rattle.refusal.specs.Refusal.{short-file, no-signature, other-version, bad-trailer, not-spelled, no-entry-room, not-filled, mandatory, too-deep, no-node-room}
-use Rattle.format.specs.Format.{depthLimit, idSize}
+use Rattle.format.specs.Format.{depthLimit}
+use Rattle.kind.specs.Sha1.{sha1Kind}
 use Rattle.file.specs.Answer.{numberOf, carriedOf, valueOf}
 use Rattle.file.specs.Read.{Outcome, outcome, readFile}
 use Rattle.file.specs.declared.Answer.{Answer}
@@ -75,7 +76,7 @@ number-small answer.NoNodeRoom = lit≤ tt
 -- ---- a call of `sparrowpivot_read`
 
 abbrev pub reading : List ℕ → List ℕ → List ℕ → List ℕ → Outcome
-reading = readFile idSize depthLimit
+reading = readFile sha1Kind depthLimit
 
 module _ {s rs ps ns values rs′ ps′ ns′ : List ℕ} {code : ℕ} (call : ReadCall s rs ps ns code values rs′ ps′ ns′) where
   abbrev given : Answer

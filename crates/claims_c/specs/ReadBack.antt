@@ -10,8 +10,9 @@ use lib.ListN.{length, take, getElem?}
 use Rattle.laws.specs.Pick.{pick}
 use Rattle.refusal.specs.Bit.{bit}
 use Rattle.format.specs.Format.{depthLimit, idSize}
-use Rattle.sha1.specs.Sha1.{sha1}
+use Rattle.kind.specs.Sha1.{sha1Kind}
 use Rattle.entry.specs.Flags.{stageRaw, keepFlags}
+use Rattle.entry.specs.Paths.{Paths, lyingIn}
 use Rattle.entry.specs.Record.{recordsIn, modeAt, flagsAt, stageAt, startAt, endAt, pathAt}
 use Rattle.entry.specs.Stat.{statAt}
 use Rattle.entry.specs.Laws.{path-is}
@@ -43,86 +44,86 @@ use Rattle.claims_c.specs.Numbers.{number-told, values-told, left}
 use Rattle.claims_c.specs.Writing.{zero-is-done, output}
 use Rattle.claims_c.specs.Tables.{path-stands, record-told, stat-told, tables-show}
 
-module _ {rs ps ns nm out values out′ : List ℕ} {options code : ℕ} (wrote : WriteCall rs ps ns nm options out code values out′) (returned : code ≡ 0) where
+module _ {rs : List ℕ} {ps : Paths} {ns nm out values out′ : List ℕ} {options code : ℕ} (wrote : WriteCall rs ps ns nm options out code values out′) (returned : code ≡ 0) where
   abbrev asked : Options
   asked = optionsFrom options
 
   abbrev writing : Outcome
-  writing = writeAll idSize sha1 depthLimit rs ps ns nm asked out
+  writing = writeAll sha1Kind depthLimit rs ps ns nm asked out
 
   done : writing .answer ≡ answer.Done (value values 0) (value values 1)
   done = zero-is-done wrote returned
 
-  same-file : fileIn rs ps ns nm asked out (value values 0) (value values 1) done ≡ take (value values 1) out′
+  same-file : fileIn sha1Kind rs ps ns nm asked out (value values 0) (value values 1) done ≡ take (value values 1) out′
   same-file = ap (λ (l : List ℕ). take (value values 1) l) (output wrote)
 
   -- the file that was written means the table
-  written-means : PathsEnd rs ps → File idSize (take (value values 1) out′) (indexOf rs ps ns nm asked)
+  written-means : PathsEnd rs ps → File idSize (take (value values 1) out′) (indexOf sha1Kind rs ps ns nm asked)
   written-means ends =
-      subst (λ (b : List ℕ). File idSize b (indexOf rs ps ns nm asked)) same-file (written-is-spelled rs ps ns nm asked out (value values 0) (value values 1) done ends)
+      subst (λ (b : List ℕ). File idSize b (indexOf sha1Kind rs ps ns nm asked)) same-file (written-is-spelled sha1Kind rs ps ns nm asked out (value values 0) (value values 1) done ends)
 
   -- each record that was written has its path in the store
-  written-path : (j i : ℕ) → getElem? (keptOf rs) j ≡ some i → Stands ps (startAt rs i) (endAt rs i) (pathAt rs ps i)
+  written-path : (j i : ℕ) → getElem? (keptOf rs) j ≡ some i → Stands (ps .store) (startAt rs i) (endAt rs i) (pathAt rs ps i)
   written-path j i e =
-      let (may, room) = done-exactly rs ps ns nm asked out .0 (_, _, done) in
+      let (may, room) = done-exactly sha1Kind rs ps ns nm asked out .0 (_, _, done) in
       let k = kept-is rs (recordsIn rs) 0 j i e in
       let there : i < recordsIn rs = omega (arith, k .most) in
       let (low, high) = may .inside i (record { there = there; unmarked = k .stays }) in
-      record { ahead = low; inside = high; bytes = path-is rs ps i there (startAt rs i) (endAt rs i) refl refl low high }
+      record { ahead = low; inside = high; bytes = path-is rs (ps .store) i there (startAt rs i) (endAt rs i) refl refl low high }
 
   module _ (few : length ns < 2 ^ 64) (ends : PathsEnd rs ps) (records′ paths′ nodes′ : List ℕ)
-      (slices : Slices (take (value values 1) out′) paths′ nodes′) (roomy : Roomy rs ps ns asked records′ paths′ nodes′) where
-    slices-w : Slices (fileIn rs ps ns nm asked out (value values 0) (value values 1) done) paths′ nodes′
+      (slices : Slices (take (value values 1) out′) paths′ nodes′) (roomy : Roomy sha1Kind rs ps ns asked records′ paths′ nodes′) where
+    slices-w : Slices (fileIn sha1Kind rs ps ns nm asked out (value values 0) (value values 1) done) paths′ nodes′
     slices-w = subst (λ (b : List ℕ). Slices b paths′ nodes′) (sym same-file) slices
 
     abbrev answered : Read
-    answered = reading.Read (value values 0) (indexOf rs ps ns nm asked .sparse) (writesTree asked) (length (keptOf rs)) (length (pathsBytes (meaningsOf idSize rs ps))) (pick (writesTree asked) (nodesIn ns) 0)
+    answered = reading.Read (value values 0) (indexOf sha1Kind rs ps ns nm asked .sparse) (writesTree asked) (length (keptOf rs)) (length (pathsBytes (meaningsOf idSize rs ps))) (pick (writesTree asked) (nodesIn ns) 0)
 
     -- it is read
-    written-read : readFile idSize depthLimit (take (value values 1) out′) records′ paths′ nodes′ .answer ≡ answered
+    written-read : readFile sha1Kind depthLimit (take (value values 1) out′) records′ paths′ nodes′ .answer ≡ answered
     written-read =
-        subst (λ (b : List ℕ). readFile idSize depthLimit b records′ paths′ nodes′ .answer ≡ answered) same-file
-        (reads-back rs ps ns nm asked out (value values 0) (value values 1) done few ends records′ paths′ nodes′ slices-w roomy)
+        subst (λ (b : List ℕ). readFile sha1Kind depthLimit b records′ paths′ nodes′ .answer ≡ answered) same-file
+        (reads-back sha1Kind rs ps ns nm asked out (value values 0) (value values 1) done few ends records′ paths′ nodes′ slices-w roomy)
 
     -- and so a call that reads it tells
     pub read-back-told : {values₁ rs′ ps′ ns′ : List ℕ} {code₁ : ℕ} → ReadCall (take (value values 1) out′) records′ paths′ nodes′ code₁ values₁ rs′ ps′ ns′
         → (code₁ ≡ 0)
-        × (values₁ ≡ value values 0 ∷ bit (indexOf rs ps ns nm asked .sparse) ∷ bit (writesTree asked) ∷ length (keptOf rs) ∷ length (pathsBytes (meaningsOf idSize rs ps)) ∷ pick (writesTree asked) (nodesIn ns) 0 ∷ 0 ∷ 0 ∷ [])
+        × (values₁ ≡ value values 0 ∷ bit (indexOf sha1Kind rs ps ns nm asked .sparse) ∷ bit (writesTree asked) ∷ length (keptOf rs) ∷ length (pathsBytes (meaningsOf idSize rs ps)) ∷ pick (writesTree asked) (nodesIn ns) 0 ∷ 0 ∷ 0 ∷ [])
     read-back-told call = (number-told call ∙ ap numberOf written-read, values-told call ∙ ap (λ (a : Read). eight (carriedOf a)) written-read)
 
     -- what a record that loses nothing means
     written-mode : WritableTable rs ps → (j i : ℕ) → getElem? (keptOf rs) j ≡ some i → meaningOf idSize rs ps i .stat .mode ≡ modeAt rs i
     written-mode fit j i e =
-        sym (shows-written rs ps ns nm asked out (value values 0) (value values 1) done few ends records′ paths′ nodes′ slices-w roomy j i e .mode)
-        ∙ written-reads-back rs ps ns nm asked out (value values 0) (value values 1) done few ends records′ paths′ nodes′ slices-w roomy fit j i e .mode
+        sym (shows-written sha1Kind rs ps ns nm asked out (value values 0) (value values 1) done few ends records′ paths′ nodes′ slices-w roomy j i e .mode)
+        ∙ written-reads-back sha1Kind rs ps ns nm asked out (value values 0) (value values 1) done few ends records′ paths′ nodes′ slices-w roomy fit j i e .mode
 
     written-flags : WritableTable rs ps → (j i : ℕ) → getElem? (keptOf rs) j ≡ some i → writtenFlags (flagsAt rs i) ≡ keepFlags (flagsAt rs i)
     written-flags fit j i e =
-        sym (shows-written rs ps ns nm asked out (value values 0) (value values 1) done few ends records′ paths′ nodes′ slices-w roomy j i e .flags)
-        ∙ written-reads-back rs ps ns nm asked out (value values 0) (value values 1) done few ends records′ paths′ nodes′ slices-w roomy fit j i e .flags
+        sym (shows-written sha1Kind rs ps ns nm asked out (value values 0) (value values 1) done few ends records′ paths′ nodes′ slices-w roomy j i e .flags)
+        ∙ written-reads-back sha1Kind rs ps ns nm asked out (value values 0) (value values 1) done few ends records′ paths′ nodes′ slices-w roomy fit j i e .flags
 
     -- ---- the tree, over the node store as the call left it
     pub tree-back : {values₁ rs′ ps′ ns′ : List ℕ} {code₁ : ℕ} → ReadCall (take (value values 1) out′) records′ paths′ nodes′ code₁ values₁ rs′ ps′ ns′
         → asked .tree ≡ true → asked .cache ≡ true
         → (at : ℕ → ℕ) × SameTree idSize ns nm (take (value values 1) out′) ns′ at
     tree-back {ns′ = ns′} call given wanted =
-        let (at, x) = tree-reads-back-node-by-node rs ps ns nm asked out (value values 0) (value values 1) done few ends records′ paths′ nodes′ slices-w roomy given wanted in
-        let y : SameTree idSize ns nm (take (value values 1) out′) (readFile idSize depthLimit (take (value values 1) out′) records′ paths′ nodes′ .nodes) at =
-        subst (λ (b : List ℕ). SameTree idSize ns nm b (readFile idSize depthLimit b records′ paths′ nodes′ .nodes) at) same-file x in
+        let (at, x) = tree-reads-back-node-by-node sha1Kind rs ps ns nm asked out (value values 0) (value values 1) done few ends records′ paths′ nodes′ slices-w roomy given wanted in
+        let y : SameTree idSize ns nm (take (value values 1) out′) (readFile sha1Kind depthLimit (take (value values 1) out′) records′ paths′ nodes′ .nodes) at =
+        subst (λ (b : List ℕ). SameTree idSize ns nm b (readFile sha1Kind depthLimit b records′ paths′ nodes′ .nodes) at) same-file x in
         (at, subst (λ (u : ReadOutcome). SameTree idSize ns nm (take (value values 1) out′) (u .nodes) at) (left call) y)
 
     -- ---- calls of the record functions, over the table that was written and over the one that was read
     module _ (fit : WritableTable rs ps) (i j : ℕ) (kept : getElem? (keptOf rs) j ≡ some i) {values₁ rs′ ps′ ns′ : List ℕ} {code₁ : ℕ}
         (call : ReadCall (take (value values 1) out′) records′ paths′ nodes′ code₁ values₁ rs′ ps′ ns′) where
-      entry-shown : Shows idSize (recordsTold values₁ rs′) ps′ j (meaningOf idSize rs ps i)
+      entry-shown : Shows idSize (recordsTold values₁ rs′) (lyingIn ps′) j (meaningOf idSize rs ps i)
       entry-shown =
-          tables-show call slices (read-back-told call .0) (indexOf rs ps ns nm asked) (written-means ends) .entries j (meaningOf idSize rs ps i) (at-map (meaningOf idSize rs ps) (keptOf rs) j i kept)
+          tables-show call slices (read-back-told call .0) (indexOf sha1Kind rs ps ns nm asked) (written-means ends) .entries j (meaningOf idSize rs ps i) (at-map (meaningOf idSize rs ps) (keptOf rs) j i kept)
 
       pub record-back : {code₂ code₃ : ℕ} {values₂ values₃ : List ℕ} → RecordCall rs ps i code₂ values₂
-          → RecordCall (recordsTold values₁ rs′) ps′ j code₃ values₃
+          → RecordCall (recordsTold values₁ rs′) (lyingIn ps′) j code₃ values₃
           → (start end : ℕ) × (path : List ℕ)
           × (values₃ ≡ value values₂ 0 ∷ keepFlags (value values₂ 1) ∷ value values₂ 2 ∷ start ∷ end ∷ 1 ∷ 1 ∷ value values₂ 7 ∷ [])
-          × Stands ps (value values₂ 3) (value values₂ 4) path × Stands ps′ start end path
+          × Stands (ps .store) (value values₂ 3) (value values₂ 4) path × Stands ps′ start end path
       unfolding statOf
       record-back b c =
           let x = entry-shown in
@@ -137,7 +138,7 @@ module _ {rs ps ns nm out values out′ : List ℕ} {options code : ℕ} (wrote 
             pathAt rs ps i,
             record-told x (record-tells c) .1 ∙ (λ k. m k ∷ f k ∷ (ap stageRaw f ∙ g) k ∷ start ∷ end ∷ 1 ∷ 1 ∷ statAt rs i .size ∷ [])
                 ∙ sym (ap (λ (l : List ℕ). value l 0 ∷ keepFlags (value l 1) ∷ value l 2 ∷ start ∷ end ∷ 1 ∷ 1 ∷ value l 7 ∷ []) w),
-            subst (λ (l : List ℕ). Stands ps (value l 3) (value l 4) (pathAt rs ps i)) (sym w) (written-path j i kept),
+            subst (λ (l : List ℕ). Stands (ps .store) (value l 3) (value l 4) (pathAt rs ps i)) (sym w) (written-path j i kept),
             path-stands x,
           )
 

@@ -11,8 +11,8 @@ use lib.ListN.{length, take, drop, replicate, length-append, length-drop}
 use lib.Seq.{take-at, take-take, drop-drop, drop-append-seam, length-take-le}
 use borrow.Author.Tests.{lt-ltb, le-ltb}
 use Rattle.refusal.specs.Bit.{bit}
-use Rattle.format.specs.Format.{idSize}
-use Rattle.node.specs.Store.{nodeSize, idPlace, idRoom, nodesIn, wordAt, idAt}
+use Rattle.format.specs.Format.{idSize, idRoom}
+use Rattle.node.specs.Store.{nodeSize, idPlace, nodesIn, wordAt, idAt}
 use Rattle.node.specs.Laws.{word-out, name-part}
 use Rattle.grammar.specs.Number.{Count}
 use Rattle.grammar.specs.Extension.{Extensions}

@@ -8,6 +8,8 @@ use native.Mathlib.Omega.{arith}
 use lib.ListN.{length}
 use Rattle.laws.specs.Tests.{lt-or-ge}
 use Rattle.refusal.specs.Refusal.{no-stage, not-after}
+use Rattle.format.specs.Format.{idSize}
+use Rattle.entry.specs.Paths.{Paths}
 use Rattle.entry.specs.Record.{recordsIn}
 use Rattle.access.specs.Lookup as lookup
 use Rattle.access.specs.Lookup.{highestStage, lookupAt}
@@ -36,7 +38,7 @@ entry-within (d ∷ es) (suc i) e q = omega (arith, entry-within es i e q)
 one-entry : (es : List Meaning) (i : ℕ) (d e : Meaning) → EntryIs es i d → EntryIs es i e → d ≡ e
 one-entry es i d e p q = let both = sym p ∙ q in cc
 
-module _ (rs ps : List ℕ) (es : List Meaning) (shown : EachShown rs ps es) (many : recordsIn rs ≡ length es) where
+module _ (rs : List ℕ) (ps : Paths) (es : List Meaning) (shown : EachShown idSize rs ps es) (many : recordsIn rs ≡ length es) where
   -- ---- order
 
   lies : (i : ℕ) → i < recordsIn rs → Lies rs ps i
@@ -170,7 +172,7 @@ eleven-is-no-stage (PathOutside i) e = absurd (omega arith)
 
 -- ---- calls
 
-module _ {rs ps values : List ℕ} {code : ℕ} (call : CheckOrderCall rs ps code values) (es : List Meaning) (shown : EachShown rs ps es)
+module _ {rs : List ℕ} {ps : Paths} {values : List ℕ} {code : ℕ} (call : CheckOrderCall rs ps code values) (es : List Meaning) (shown : EachShown idSize rs ps es)
     (many : recordsIn rs ≡ length es) where
   order-number : code ≡ verify.numberOf (verifyAt rs ps)
   order-number = ap (λ (t : Told). t .code) (check-order-tells call)
@@ -198,7 +200,7 @@ module _ {rs ps values : List ℕ} {code : ℕ} (call : CheckOrderCall rs ps cod
       by (verified.PathOutside i) e = absurd (never-outside rs ps es shown many i e)
       by (verified.NotAfter i) e = inr (order-number ∙ ap verify.numberOf e)
 
-module _ {rs ps key values : List ℕ} {stage code : ℕ} (call : LookupCall rs ps key stage code values) where
+module _ {rs : List ℕ} {ps : Paths} {key values : List ℕ} {stage code : ℕ} (call : LookupCall rs ps key stage code values) where
   found-number : code ≡ lookup.numberOf (lookupAt rs ps key stage)
   found-number = ap (λ (t : Told). t .code) (lookup-tells call)
 
@@ -211,7 +213,7 @@ module _ {rs ps key values : List ℕ} {stage code : ℕ} (call : LookupCall rs 
     (λ h. found-number ∙ ap lookup.numberOf (finds.said-refusal-11 rs ps key stage h)),
   )
 
-  module _ (es : List Meaning) (shown : EachShown rs ps es) (many : recordsIn rs ≡ length es) (order : InOrder es) (small : stage ≤ highestStage) where
+  module _ (es : List Meaning) (shown : EachShown idSize rs ps es) (many : recordsIn rs ≡ length es) (order : InOrder es) (small : stage ≤ highestStage) where
     none-refused : lookup.numberOf (lookupAt rs ps key stage) ≡ 0
     none-refused = no-refusal rs ps es shown many key stage order small
 

@@ -9,7 +9,9 @@ use lib.ListN.{length, take, replicate, length-take}
 use borrow.Author.Tests.{lt-ltb, le-ltb}
 use Rattle.refusal.specs.Bit.{bit}
 use Rattle.format.specs.Format.{idSize}
+use Rattle.kind.specs.Sha1.{sha1Kind}
 use Rattle.entry.specs.Layout.{recordSize}
+use Rattle.entry.specs.Paths.{Paths, lyingIn}
 use Rattle.entry.specs.Record.{recordsIn, fieldAt, idAt}
 use Rattle.entry.specs.Laws.{field-out, id-out, inside-none, path-is}
 use Rattle.node.specs.Store.{nodeSize, nodesIn}
@@ -34,14 +36,14 @@ use Rattle.claims_c.specs.Rows.{row-within, rows-many, rows-shown, Shows
 
 -- ---- one record
 
-module _ {rs ps : List ℕ} {i : ℕ} {e : Meaning} (x : Shows idSize rs ps i e) where
+module _ {rs : List ℕ} {ps : Paths} {i : ℕ} {e : Meaning} (x : Shows idSize rs ps i e) where
   -- its path, where it is told to stand
-  pub path-stands : Stands ps (x .start) (x .start + length (e .path)) (e .path)
+  pub path-stands : Stands (ps .store) (x .start) (x .start + length (e .path)) (e .path)
   path-stands =
       let (a, b) = yes-lies rs ps i (x .there) (x .inside) in
       let low : x .start ≤ x .start + length (e .path) = omega arith in
-      let high : x .start + length (e .path) ≤ length ps = omega (arith, x .ends, b) in
-      record { ahead = low; inside = high; bytes = path-is rs ps i (x .there) (x .start) (x .start + length (e .path)) (sym (x .starts)) (sym (x .ends)) low high ∙ x .path }
+      let high : x .start + length (e .path) ≤ length (ps .store) = omega (arith, x .ends, b) in
+      record { ahead = low; inside = high; bytes = path-is rs (ps .store) i (x .there) (x .start) (x .start + length (e .path)) (sym (x .starts)) (sym (x .ends)) low high ∙ x .path }
 
   pub record-told : {code : ℕ} {values : List ℕ} → told code values [] ≡ tellRecord rs ps i
       → (code ≡ 0) × (values ≡ e .stat .mode ∷ e .flags ∷ stageOf e ∷ x .start ∷ (x .start + length (e .path)) ∷ 1 ∷ 1 ∷ e .stat .size ∷ [])
@@ -65,7 +67,7 @@ module _ (rs : List ℕ) (i : ℕ) (none-there : recordsIn rs ≤ i) where
   zero-field : (w k : ℕ) → fieldAt w k rs i ≡ 0
   zero-field w k = sym (field-out w k rs i none-there)
 
-  pub no-record-told : (ps : List ℕ) {code : ℕ} {values : List ℕ} → told code values [] ≡ tellRecord rs ps i → (code ≡ 0) × (values ≡ replicate 8 0)
+  pub no-record-told : (ps : Paths) {code : ℕ} {values : List ℕ} → told code values [] ≡ tellRecord rs ps i → (code ≡ 0) × (values ≡ replicate 8 0)
   no-record-told ps t = (
     ap (λ (t : Told). t .code) t,
     ap (λ (t : Told). t .values) t
@@ -88,21 +90,21 @@ module _ {s rs ps ns values rs′ ps′ ns′ : List ℕ} {code : ℕ} (call : R
     (returned : code ≡ 0) (m : Index) (means : File idSize s m) where
   pub meaning-told : values ≡ m .version ∷ bit (m .sparse) ∷ bit (hasTree (m .tree)) ∷ length (m .entries) ∷ length (pathsBytes (m .entries)) ∷ nodesOf (m .tree) ∷ 0 ∷ 0 ∷ []
   meaning-told =
-      let (o, x, y, one) = accepted-is-the-one-meaning s rs ps ns slices (zero-is-read call returned) in
+      let (o, x, y, one) = accepted-is-the-one-meaning sha1Kind s rs ps ns slices (zero-is-read call returned) in
       let same : o ≡ m = sym (one m means) in
       values-told call ∙ ap (λ (a : Answer). eight (carriedOf a)) (y .answer)
       ∙ ap (λ (m : Index). m .version ∷ bit (m .sparse) ∷ bit (hasTree (m .tree)) ∷ length (m .entries) ∷ length (pathsBytes (m .entries)) ∷ nodesOf (m .tree) ∷ 0 ∷ 0 ∷ []) same
 
   -- the tables that a caller lends on show it
-  pub tables-show : ShowsIndex s (recordsTold values rs′) ps′ (nodesTold values ns′) m
+  pub tables-show : ShowsIndex sha1Kind s (recordsTold values rs′) (lyingIn ps′) (nodesTold values ns′) m
   tables-show =
-      let (o, x, one, y, shown) = accepted-is-shown s rs ps ns slices (zero-is-read call returned) in
-      let all : ShowsIndex s rs′ ps′ ns′ m =
-      subst (ShowsIndex s rs′ ps′ ns′) (sym (one m means)) (subst (λ (u : Outcome). ShowsIndex s (u .records) (u .paths) (u .nodes) o) (left call) shown) in
+      let (o, x, one, y, shown) = accepted-is-shown sha1Kind s rs ps ns slices (zero-is-read call returned) in
+      let all : ShowsIndex sha1Kind s rs′ (lyingIn ps′) ns′ m =
+      subst (ShowsIndex sha1Kind s rs′ (lyingIn ps′) ns′) (sym (one m means)) (subst (λ (u : Outcome). ShowsIndex sha1Kind s (u .records) (lyingIn (u .paths)) (u .nodes) o) (left call) shown) in
       let n : length (m .entries) ≡ value values 3 = sym (ap (λ (l : List ℕ). value l 3) meaning-told) in
       let k : nodesOf (m .tree) ≡ value values 5 = sym (ap (λ (l : List ℕ). value l 5) meaning-told) in
-      subst (λ (j : ℕ). ShowsIndex s (recordsTold values rs′) ps′ (take (j * nodeSize) ns′) m) k
-      (subst (λ (j : ℕ). ShowsIndex s (take (j * recordSize) rs′) ps′ (take (nodesOf (m .tree) * nodeSize) ns′) m) n (shown-by-the-first m all))
+      subst (λ (j : ℕ). ShowsIndex sha1Kind s (recordsTold values rs′) (lyingIn ps′) (take (j * nodeSize) ns′) m) k
+      (subst (λ (j : ℕ). ShowsIndex sha1Kind s (take (j * recordSize) rs′) (lyingIn ps′) (take (nodesOf (m .tree) * nodeSize) ns′) m) n (shown-by-the-first sha1Kind m all))
 
   -- and have no record too many
   pub records-are : recordsIn (recordsTold values rs′) ≡ length (m .entries)

@@ -6,8 +6,9 @@ use mathlib.Core.Logic.{_↔_, _⊎_, inl, inr}
 use lib.Dec.{eqb}
 use Rattle.laws.specs.Pick.{pick}
 use Rattle.refusal.specs.Refusal.{path-outside, short-output, too-large, not-proper}
-use Rattle.format.specs.Format.{depthLimit, idSize}
-use Rattle.sha1.specs.Sha1.{sha1}
+use Rattle.format.specs.Format.{depthLimit}
+use Rattle.kind.specs.Sha1.{sha1Kind}
+use Rattle.entry.specs.Paths.{Paths}
 use Rattle.write.specs.declared.Answer.{Answer}
 use Rattle.write.specs.declared.Answer.the-variants as answer
 use Rattle.write.specs.File.{Outcome, numberOf, carriedOf, writeAll}
@@ -57,9 +58,9 @@ one-of-five (answer.ShortOutput size) = inr (inr (inl refl))
 one-of-five answer.TooLarge = inr (inr (inr (inl refl)))
 one-of-five answer.NotProper = inr (inr (inr (inr refl)))
 
-module _ {rs ps ns nm out values out′ : List ℕ} {options code : ℕ} (call : WriteCall rs ps ns nm options out code values out′) where
+module _ {rs : List ℕ} {ps : Paths} {ns nm out values out′ : List ℕ} {options code : ℕ} (call : WriteCall rs ps ns nm options out code values out′) where
   abbrev writing : Outcome
-  writing = writeAll idSize sha1 depthLimit rs ps ns nm (optionsFrom options) out
+  writing = writeAll sha1Kind depthLimit rs ps ns nm (optionsFrom options) out
 
   number-told : code ≡ numberOf (writing .answer)
   number-told = ap (λ (t : Told). t .code) (write-tells call)

@@ -72,18 +72,18 @@ room-met (suc (suc k)) ms rest h x = absurd (omega arith)
 
 pub one-is-read : readingOf idSize one 2 0 64 1 (replicate 96 0) (replicate 1 0) ≡ holding idSize (replicate 96 0) (replicate 1 0) (means ∷ []) (Done (fileAt 64) (pathAt 1) false)
 unfolding pathsBytes sparseBy
-one-is-read = stores-are-the-meaning one one-bytes 2 0 64 1 one-inside (replicate 96 0) (replicate 1 0) room-met (means ∷ []) [] (one, refl, all-spelled)
+one-is-read = stores-are-the-meaning idSize (lit≤ tt) one one-bytes 2 0 64 1 one-inside (replicate 96 0) (replicate 1 0) room-met (means ∷ []) [] (one, refl, all-spelled)
 
 pub one-record-byte-short : readingOf idSize one 2 0 64 1 (replicate 95 0) (replicate 1 0) .answer ≡ NoRoom 0
 unfolding pathsBytes
 one-record-byte-short =
-    no-room-exactly one one-bytes 2 0 64 1 one-inside (replicate 95 0) (replicate 1 0) 0 .1
+    no-room-exactly idSize (lit≤ tt) one one-bytes 2 0 64 1 one-inside (replicate 95 0) (replicate 1 0) 0 .1
     (lit< tt, ([], one, means, [], ([], refl, done), record { records = lit≤ tt; paths = lit≤ tt }, (one, refl, one-spelled), inl (lit< tt)))
 
 pub one-path-byte-short : readingOf idSize one 2 0 64 1 (replicate 96 0) [] .answer ≡ NoRoom 0
 unfolding pathsBytes
 one-path-byte-short =
-    no-room-exactly one one-bytes 2 0 64 1 one-inside (replicate 96 0) [] 0 .1
+    no-room-exactly idSize (lit≤ tt) one one-bytes 2 0 64 1 one-inside (replicate 96 0) [] 0 .1
     (lit< tt, ([], one, means, [], ([], refl, done), record { records = lit≤ tt; paths = lit≤ tt }, (one, refl, one-spelled), inr (lit< tt)))
 
 -- without its padding it is no entry
@@ -94,5 +94,5 @@ not-one = refuses (entry-reads idSize 2 start) (entriesSpace one 0 63) .0 refl
 pub one-space-byte-short : readingOf idSize one 2 0 63 1 (replicate 96 0) (replicate 1 0) ≡ holding idSize (replicate 96 0) (replicate 1 0) [] (NotSpelled 0)
 unfolding pathsBytes
 one-space-byte-short =
-    no-second-answer one one-bytes 2 0 63 1 (record { ahead = lit≤ tt; inside = lit≤ tt }) (replicate 96 0) (replicate 1 0)
+    no-second-answer idSize (lit≤ tt) one one-bytes 2 0 63 1 (record { ahead = lit≤ tt; inside = lit≤ tt }) (replicate 96 0) (replicate 1 0)
     (says-not-spelled (entriesSpace one 0 63) (lit< tt) refl done (record { records = lit≤ tt; paths = lit≤ tt }) not-one)

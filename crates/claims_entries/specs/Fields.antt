@@ -17,6 +17,7 @@ use Rattle.laws.specs.Times.{done, more}
 use Rattle.wire.specs.BigEndian.{beAt, bytesOf, length-bytes, be-left, be-right, be-bytes, be-small}
 use Rattle.entry.specs.Flags.{stageRaw}
 use Rattle.entry.specs.Layout.{recordSize}
+use Rattle.entry.specs.Paths.{Paths, lyingIn}
 use Rattle.entry.specs.Record.{recordsIn, restOf, fieldAt, modeAt, flagsAt, stageAt, startAt, endAt, idAt, liesInside, pathAt}
 use Rattle.entry.specs.Stat.{statAt}
 use Rattle.entry.specs.Laws.{field-is, id-is, inside-is, path-is}
@@ -177,8 +178,8 @@ statShown t =
       size = t .size;
     }
 
--- record i shows the meaning m, and its path lies in the path store
-pub record Shows (n : ℕ) (rs ps : List ℕ) (i : ℕ) (m : Meaning) : Type 0 where
+-- record i shows the meaning m, and its path lies where paths lie
+pub record Shows (n : ℕ) (rs : List ℕ) (ps : Paths) (i : ℕ) (m : Meaning) : Type 0 where
   pub there : i < recordsIn rs
   pub stat : statAt rs i ≡ statShown (m .stat)
   pub mode : modeAt rs i ≡ m .stat .mode
@@ -220,7 +221,7 @@ module _ (n : ℕ) (hid : n ≤ 32) (from i : ℕ) (m : Meaning) (fit : FitsReco
       ∙ take-append-le n (drop 40 r) q (omega (arith, length-drop 40 r))
       ∙ row-id n hid from m fit
 
-  rendered-here : Shows n rows texts i m
+  rendered-here : Shows n rows (lyingIn texts) i m
   rendered-here =
       let s : startAt rows i ≡ from = field-shown 8 76 (lit≤ tt) ∙ row-start n hid from m fit (omega arith) in
       let e : endAt rows i ≡ from + length (m .path) = field-shown 8 84 (lit≤ tt) ∙ row-end n hid from m fit small in
@@ -278,7 +279,7 @@ filled-split store x p r q e =
 
 module _ (n : ℕ) (hid : n ≤ 32) (rs ps : List ℕ) where
   rendered-among : (ms : List Meaning) (m : Meaning) (os : List Meaning) → EachFits n (ms ++ (m ∷ os)) → length (pathsBytes (ms ++ (m ∷ os))) < 2 ^ 64
-      → Shows n (filled rs (recordsBytes n 0 (ms ++ (m ∷ os)))) (filled ps (pathsBytes (ms ++ (m ∷ os)))) (length ms) m
+      → Shows n (filled rs (recordsBytes n 0 (ms ++ (m ∷ os)))) (lyingIn (filled ps (pathsBytes (ms ++ (m ∷ os))))) (length ms) m
   rendered-among ms m os fits small =
       let (before, fit) = fits-before ms os fits in
       let all : List Meaning = ms ++ (m ∷ os) in
@@ -294,13 +295,13 @@ module _ (n : ℕ) (hid : n ≤ 32) (rs ps : List ℕ) where
       (rendered-here n hid u (length ms) m fit (recordsBytes n 0 ms) (q ++ drop (length (recordsBytes n 0 all)) rs) (pathsBytes ms) (pathsBytes os ++ drop (length (pathsBytes all)) ps) (length-records n 0 hid before) (omega arith) (omega arith))
 
   pub rendered-fields : (ms : List Meaning) → EachFits n ms → length (pathsBytes ms) < 2 ^ 64 → (i : ℕ) (m : Meaning) → getElem? ms i ≡ some m
-      → Shows n (filled rs (recordsBytes n 0 ms)) (filled ps (pathsBytes ms)) i m
+      → Shows n (filled rs (recordsBytes n 0 ms)) (lyingIn (filled ps (pathsBytes ms))) i m
   rendered-fields ms fits small i m e =
       let a = among ms i m e in
       let q = a .is in
       let r = rendered-among (a .before) m (a .behind) (subst (EachFits n) q fits) (subst (λ (l : List Meaning). length (pathsBytes l) < 2 ^ 64) q small) in
-      subst (λ (j : ℕ). Shows n (filled rs (recordsBytes n 0 ms)) (filled ps (pathsBytes ms)) j m) (a .place)
-      (subst (λ (l : List Meaning). Shows n (filled rs (recordsBytes n 0 l)) (filled ps (pathsBytes l)) (length (a .before)) m) (sym q) r)
+      subst (λ (j : ℕ). Shows n (filled rs (recordsBytes n 0 ms)) (lyingIn (filled ps (pathsBytes ms))) j m) (a .place)
+      (subst (λ (l : List Meaning). Shows n (filled rs (recordsBytes n 0 l)) (lyingIn (filled ps (pathsBytes l))) (length (a .before)) m) (sym q) r)
 
 -- there is a meaning at each place below the length
 pub meaning-at : (ms : List Meaning) (i : ℕ) → i < length ms → (m : Meaning) × (getElem? ms i ≡ some m)
@@ -325,7 +326,7 @@ stat-shown-once t u e m =
       size = e j .size;
     }
 
-pub shown-once : {n : ℕ} {rs ps : List ℕ} {i : ℕ} {m o : Meaning} → Shows n rs ps i m → Shows n rs ps i o → m ≡ o
+pub shown-once : {n : ℕ} {rs : List ℕ} {ps : Paths} {i : ℕ} {m o : Meaning} → Shows n rs ps i m → Shows n rs ps i o → m ≡ o
 shown-once {m = m} {o = o} a b =
     let s : m .stat ≡ o .stat = stat-shown-once (m .stat) (o .stat) (sym (a .stat) ∙ b .stat) (sym (a .mode) ∙ b .mode) in
     λ j. meaning (s j) ((sym (a .id) ∙ b .id) j) ((sym (a .flags) ∙ b .flags) j) ((sym (a .path) ∙ b .path) j)

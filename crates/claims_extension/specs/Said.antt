@@ -10,8 +10,9 @@ use Rattle.laws.specs.Pick.{pick}
 use Rattle.wire.specs.Places.{fileAt}
 use Rattle.extension.specs.declared.iter.Body.{Body}
 use Rattle.extension.specs.declared.iter.Body.the-variants.{Lies, Missing}
-use Rattle.extension.specs.declared.decode.Walked.{Walked}
-use Rattle.extension.specs.declared.decode.Walked.the-variants.{Filled, NotFilled, Mandatory}
+use Rattle.extension.specs.declared.decode.Bodies.{Bodies}
+use Rattle.extension.specs.declared.decode.Space.{Space}
+use Rattle.extension.specs.declared.decode.Space.the-variants.{Filled, NotFilled, Mandatory}
 use Rattle.grammar.specs.Number.{bigEndian}
 use Rattle.grammar.specs.Entry.{Meaning}
 use Rattle.grammar.specs.Extension.{Ext, sdir, TREE, Extensions, NoneSigned, another, LastSigned, last-signed}
@@ -34,22 +35,25 @@ pub data SaysBody (signature : List ℕ) (from : ℕ) (es : List Ext) : Body →
   says-missing : NoneSigned signature es → SaysBody signature from es Missing
   says-lies : {place : ℕ} {body : List ℕ} → LastSigned signature from es place body → SaysBody signature from es (Lies (fileAt place) (fileAt (place + length body)))
 
--- what each answer of a walk that looks for a signature says: xs is the extensions' space, which starts at `from`
-pub data SaysWalked (wanted : List ℕ) (from : ℕ) (xs : List ℕ) : Walked → Type 0 where
-  -- extensions that may stand fill it
-  says-filled : {es : List Ext} {sparse : Bool} {body : Body} → Extensions xs es → Tells (HasSdir es) sparse → SaysBody wanted from es body → SaysWalked wanted from xs (Filled sparse body)
-  -- 7: behind some of them stand bytes that begin with no extension
-  says-not-filled : {place : ℕ} → Faulty from xs (stray place) → SaysWalked wanted from xs (NotFilled (fileAt place))
-  -- 8: behind some of them stands one that may not
-  says-mandatory : {signature : List ℕ} → Faulty from xs (refused signature) → SaysWalked wanted from xs (Mandatory (bigEndian signature))
+-- the signatures whose last bodies the reader goes into, each with where its answer has that body; and what is said of all of them
+pub data Handed : List ℕ → (Bodies → Body) → Type 0 where
+  tree-handed : Handed TREE (λ bodies. bodies .tree)
 
--- the reader looks for TREE
-abbrev pub SaysExtensions : ℕ → List ℕ → Walked → Type 0
-SaysExtensions from xs w = SaysWalked TREE from xs w
+pub record SaysBodies (from : ℕ) (es : List Ext) (bodies : Bodies) : Type 0 where
+  pub tree : SaysBody TREE from es (bodies .tree)
+
+-- what each answer of the walk says: xs is the extensions' space, which starts at `from`
+pub data SaysExtensions (from : ℕ) (xs : List ℕ) : Space → Type 0 where
+  -- extensions that may stand fill it
+  says-filled : {es : List Ext} {sparse : Bool} {bodies : Bodies} → Extensions xs es → Tells (HasSdir es) sparse → SaysBodies from es bodies → SaysExtensions from xs (Filled sparse bodies)
+  -- 7: behind some of them stand bytes that begin with no extension
+  says-not-filled : {place : ℕ} → Faulty from xs (stray place) → SaysExtensions from xs (NotFilled (fileAt place))
+  -- 8: behind some of them stands one that may not
+  says-mandatory : {signature : List ℕ} → Faulty from xs (refused signature) → SaysExtensions from xs (Mandatory (bigEndian signature))
 
 -- an answer is Filled
-abbrev pub IsFilled : Walked → Type 0
-IsFilled w = (sparse : Bool) × (body : Body) × (w ≡ Filled sparse body)
+abbrev pub IsFilled : Space → Type 0
+IsFilled w = (sparse : Bool) × (bodies : Bodies) × (w ≡ Filled sparse bodies)
 
 -- the space is spelled
 abbrev pub AllSpelled : List ℕ → Type 0
@@ -63,16 +67,23 @@ one-body (says-missing x) (says-lies m) = absurd (none-not-last x m)
 one-body (says-lies l) (says-missing y) = absurd (none-not-last y l)
 one-body (says-lies l) (says-lies m) = let (p, q) = last-unique l m in λ i. Lies (fileAt (p i)) (fileAt (p i + length (q i)))
 
+-- what is said of all bodies is said of each
+pub handed-says : {wanted : List ℕ} {of : Bodies → Body} {from : ℕ} {es : List Ext} {bodies : Bodies} → Handed wanted of → SaysBodies from es bodies → SaysBody wanted from es (of bodies)
+handed-says tree-handed b = b .tree
+
+one-bodies : {from : ℕ} {es : List Ext} {b c : Bodies} → SaysBodies from es b → SaysBodies from es c → b ≡ c
+one-bodies x y = λ i. record { tree = one-body (x .tree) (y .tree) i }
+
 two-faults : {place : ℕ} {signature : List ℕ} → stray place ≡ refused signature → ⊥
 two-faults e = let z : _≡_ {A = ℕ} 0 1 = cc in omega arith
 
-pub one-answer : {wanted : List ℕ} {from : ℕ} {xs : List ℕ} {v w : Walked} → SaysWalked wanted from xs v → SaysWalked wanted from xs w → v ≡ w
-one-answer {wanted} {from} {xs} (says-filled {es = es} {sparse = a} {body = b} x m l) (says-filled {es = fs} {sparse = c} {body = d} y n k) =
+pub one-answer : {from : ℕ} {xs : List ℕ} {v w : Space} → SaysExtensions from xs v → SaysExtensions from xs w → v ≡ w
+one-answer {from} {xs} (says-filled {es = es} {sparse = a} {bodies = b} x m l) (says-filled {es = fs} {sparse = c} {bodies = d} y n k) =
     let e : fs ≡ es = extensions-unique xs fs es y x in
     let n₂ : Tells (HasSdir es) c = rw e at n in
-    let k₂ : SaysBody wanted from es d = rw e at k in
+    let k₂ : SaysBodies from es d = rw e at k in
     let p : a ≡ c = tells-unique m n₂ in
-    let q : b ≡ d = one-body l k₂ in
+    let q : b ≡ d = one-bodies l k₂ in
     λ i. Filled (p i) (q i)
 one-answer (says-filled x m l) (says-not-filled f) = absurd (fault-not-spelled f x)
 one-answer (says-filled x m l) (says-mandatory f) = absurd (fault-not-spelled f x)

@@ -8,11 +8,10 @@ use native.Mathlib.Omega.{arith}
 use Rattle.laws.specs.Fill.{done, more}
 use Rattle.wire.specs.BigEndian.{beAt}
 use Rattle.wire.specs.Places.{fileAt}
-use Rattle.extension.specs.Signatures as reader
 use Rattle.extension.specs.Iter.{stepAt, runBy, runAt, lastWhere}
-use Rattle.extension.specs.Decode.{forbidden, sparseIn, judged, walkAt}
+use Rattle.extension.specs.Decode.{forbidden, sparseIn, judged, allAt}
 use Rattle.extension.specs.declared.iter.Body.the-variants.{Lies}
-use Rattle.extension.specs.declared.decode.Walked.the-variants.{Filled}
+use Rattle.extension.specs.declared.decode.Space.the-variants.{Filled}
 use Rattle.grammar.specs.Number.{big-endian}
 use Rattle.grammar.specs.Extension.{Ext, ext, framed, TREE, optional, Extensions, NoneSigned, none-left, another}
 use Rattle.grammar.specs.Unique.{extensions-unique}
@@ -31,12 +30,12 @@ marked-tree-bytes : Bytes marked-tree
 unfolding allBytes
 marked-tree-bytes = bytes-if marked-tree refl
 
-marked-tree-walk : walkAt marked-tree 0 17 reader.TREE ≡ Filled true (Lies (fileAt 16) (fileAt 17))
-unfolding walkAt runAt runBy stepAt beAt judged forbidden sparseIn lastWhere
+marked-tree-walk : allAt marked-tree 0 17 ≡ Filled true (record { tree = Lies (fileAt 16) (fileAt 17) })
+unfolding allAt runAt runBy stepAt beAt judged forbidden sparseIn lastWhere
 marked-tree-walk = refl
 
-pub premises-are-met : SaysExtensions 0 (extensionsSpace marked-tree 0 17) (Filled true (Lies (fileAt 16) (fileAt 17)))
-premises-are-met = says-exactly marked-tree marked-tree-bytes 0 17 (omega arith) (omega arith) (Filled true (Lies (fileAt 16) (fileAt 17))) .0 marked-tree-walk
+pub premises-are-met : SaysExtensions 0 (extensionsSpace marked-tree 0 17) (Filled true (record { tree = Lies (fileAt 16) (fileAt 17) }))
+premises-are-met = says-exactly marked-tree marked-tree-bytes 0 17 (omega arith) (omega arith) (Filled true (record { tree = Lies (fileAt 16) (fileAt 17) })) .0 marked-tree-walk
 
 -- ---- matters: 68 * 256 + 325 is 69 * 256 + 69
 
@@ -46,8 +45,8 @@ odd = 84 ∷ 82 ∷ 68 ∷ 325 ∷ []
 abbrev odd-space : List ℕ
 odd-space = 84 ∷ 82 ∷ 68 ∷ 325 ∷ 0 ∷ 0 ∷ 0 ∷ 0 ∷ []
 
-odd-walk : walkAt odd-space 0 8 reader.TREE ≡ Filled false (Lies (fileAt 8) (fileAt 8))
-unfolding walkAt runAt runBy stepAt beAt judged forbidden sparseIn lastWhere
+odd-walk : allAt odd-space 0 8 ≡ Filled false (record { tree = Lies (fileAt 8) (fileAt 8) })
+unfolding allAt runAt runBy stepAt beAt judged forbidden sparseIn lastWhere
 odd-walk = refl
 
 odd-spelled : Extensions odd-space (ext odd [] ∷ [])
@@ -58,11 +57,11 @@ odd-spelled =
 odd-none : NoneSigned TREE (ext odd [] ∷ [])
 odd-none = another {e = ext odd []} (λ e. let z : _≡_ {A = ℕ} 68 69 = cc in omega arith) none-left
 
-pub bytes-matter : ¬ SaysExtensions 0 (extensionsSpace odd-space 0 8) (walkAt odd-space 0 8 reader.TREE)
+pub bytes-matter : ¬ SaysExtensions 0 (extensionsSpace odd-space 0 8) (allAt odd-space 0 8)
 bytes-matter x = of (subst (SaysExtensions 0 odd-space) odd-walk x)
   where
     of-body : {es : List Ext} {start stop : ℕ} → es ≡ ext odd [] ∷ [] → SaysBody TREE 0 es (Lies (fileAt start) (fileAt stop)) → ⊥
     of-body i (says-lies l) = none-not-last (rw i odd-none) l
 
-    of : SaysExtensions 0 odd-space (Filled false (Lies (fileAt 8) (fileAt 8))) → ⊥
-    of (says-filled {es = es} y m l) = of-body (extensions-unique odd-space es (ext odd [] ∷ []) y odd-spelled) l
+    of : SaysExtensions 0 odd-space (Filled false (record { tree = Lies (fileAt 8) (fileAt 8) })) → ⊥
+    of (says-filled {es = es} y m l) = of-body (extensions-unique odd-space es (ext odd [] ∷ []) y odd-spelled) (l .tree)

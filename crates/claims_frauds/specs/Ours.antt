@@ -11,6 +11,8 @@ use Rattle.sha1.specs.Sha1.{sha1}
 use Rattle.sha1.specs.Pieces as pieces
 use Rattle.sha1.specs.Theorems.{each-prefix-finishes}
 use Rattle.sha1.specs.declared.Digest.{Digest}
+use Rattle.kind.specs.Sha1.{sha1Kind}
+use lib.Dec.{lit≤}
 use Rattle.node.specs.Store.{nodesIn}
 use Rattle.extension.specs.declared.end_of_index_entry.Told.the-variants.{Offset}
 use Rattle.access.specs.Lookup.{lookupAt}
@@ -37,59 +39,59 @@ use Rattle.claims_frauds.specs.Demands.{Reader, Writer, Digester, Demand
 
 -- what the contracts of `file::read`, `write::write_to`, `access::lookup` and `sha1::Digest` cite
 abbrev pub reader : Reader
-reader = readFile idSize depthLimit
+reader = readFile sha1Kind depthLimit
 
 abbrev pub writer : Writer
-writer = writeAll idSize sha1 depthLimit
+writer = writeAll sha1Kind depthLimit
 
 abbrev pub digest : Digester
 digest = record { State = Digest; new = pieces.digestAfter []; feed = pieces.fed; finish = pieces.finished }
 
 -- ---- demand 3
 
-pub demand-3 : Demand3 reader
+pub demand-3 : Demand3 sha1Kind reader
 demand-3 =
     record {
-      accepted-exactly-if-spelled = λ s rs ps ns x t. claims.accepted-exactly-if-spelled s rs ps ns (x .slices) (x .trailer) (x .room) t;
+      accepted-exactly-if-spelled = λ s rs ps ns x t. claims.accepted-exactly-if-spelled sha1Kind s rs ps ns (x .slices) (x .trailer) (x .room) t;
       one-meaning = λ s m o x y. grammar.one-meaning idSize s m o x y;
-      stores-are-the-meaning = λ s rs ps ns x t m y. claims.stores-are-the-meaning s rs ps ns (x .slices) (x .trailer) (x .room) t m y;
-      refusal-5-exactly = λ s rs ps ns x g k. claims.refusal-5-exactly s rs ps ns (x .slices) (record { header = g; trailer = x .trailer }) (x .room) k;
-      refusal-5-stores = λ s rs ps ns x g k y. claims.refusal-5-stores s rs ps ns (x .slices) (record { header = g; trailer = x .trailer }) (x .room) k y;
+      stores-are-the-meaning = λ s rs ps ns x t m y. claims.stores-are-the-meaning sha1Kind s rs ps ns (x .slices) (x .trailer) (x .room) t m y;
+      refusal-5-exactly = λ s rs ps ns x g k. claims.refusal-5-exactly sha1Kind s rs ps ns (x .slices) (record { header = g; trailer = x .trailer }) (x .room) k;
+      refusal-5-stores = λ s rs ps ns x g k y. claims.refusal-5-stores sha1Kind s rs ps ns (x .slices) (record { header = g; trailer = x .trailer }) (x .room) k y;
     }
 
-pub answers-by-the-table : AnswersByTheTable reader
-answers-by-the-table = answer-says
+pub answers-by-the-table : AnswersByTheTable sha1Kind reader
+answers-by-the-table = answer-says sha1Kind
 
 -- ---- demand 2
 
-pub writer-answers : Answers writer
+pub writer-answers : Answers sha1Kind writer
 writer-answers =
     record {
-      done-exactly = answers.done-exactly;
-      done-answers = answers.done-answers;
-      refusal-12-exactly = answers.refusal-12-exactly;
-      refusal-16-exactly = answers.refusal-16-exactly;
-      refusal-15-exactly = answers.refusal-15-exactly;
-      refusal-14-exactly = answers.refusal-14-exactly;
+      done-exactly = answers.done-exactly sha1Kind;
+      done-answers = answers.done-answers sha1Kind;
+      refusal-12-exactly = answers.refusal-12-exactly sha1Kind;
+      refusal-16-exactly = answers.refusal-16-exactly sha1Kind;
+      refusal-15-exactly = answers.refusal-15-exactly sha1Kind;
+      refusal-14-exactly = answers.refusal-14-exactly sha1Kind;
     }
 
-pub writes-as-asked : WritesAsAsked writer
+pub writes-as-asked : WritesAsAsked sha1Kind writer
 writes-as-asked =
     record {
-      as-asked = asked.written-as-asked;
-      rest-as-it-was = λ rs ps ns nm o out version size e. (asked.rest-as-it-was rs ps ns nm o out version size e, asked.output-as-long rs ps ns nm o out version size e);
-      refused-as-it-was = answers.refused-leaves-the-output;
+      as-asked = asked.written-as-asked sha1Kind;
+      rest-as-it-was = λ rs ps ns nm o out version size e. (asked.rest-as-it-was sha1Kind rs ps ns nm o out version size e, asked.output-as-long sha1Kind rs ps ns nm o out version size e);
+      refused-as-it-was = answers.refused-leaves-the-output sha1Kind;
     }
 
-module _ (c : Case) (x : Done? writer c) where
+module _ (c : Case) (x : Done? sha1Kind writer c) where
   ends : PathsEnd (c .records) (c .paths)
   ends = claims_write.writable-ends (c .records) (c .paths) (x .table)
 
-  roomy : claims_write.Roomy (c .records) (c .paths) (c .nodes) (c .options) (c .records′) (c .paths′) (c .nodes′)
+  roomy : claims_write.Roomy sha1Kind (c .records) (c .paths) (c .nodes) (c .options) (c .records′) (c .paths′) (c .nodes′)
   roomy = record { records = x .room .records; paths = x .room .paths; nodes = λ e. x .room .nodes (sym (writes-tree-is (c .options)) ∙ e) }
 
-  means : asked.Means (c .records) (c .paths) (c .options) (c .version) (indexOf (c .records) (c .paths) (c .nodes) (c .names) (c .options))
-  means = asked.index-means (c .records) (c .paths) (c .nodes) (c .names) (c .options) (c .out) (c .version) (c .size) (x .done) (x .few)
+  means : asked.Means sha1Kind (c .records) (c .paths) (c .options) (c .version) (indexOf sha1Kind (c .records) (c .paths) (c .nodes) (c .names) (c .options))
+  means = asked.index-means sha1Kind (c .records) (c .paths) (c .nodes) (c .names) (c .options) (c .out) (c .version) (c .size) (x .done) (x .few)
 
 -- the reader's answer in the words of what is asked for
 answered : (c : Case) {sparse : Bool} {records paths : ℕ}
@@ -105,23 +107,23 @@ both-asked o = by (o .tree) (o .cache)
     by true c e = (refl, e)
     by false c e = absurd (false≢true e)
 
-pub reads-back : ReadsBack writer reader
+pub reads-back : ReadsBack sha1Kind writer reader
 reads-back =
     record {
       reads-back = λ c x. (
-        indexOf (c .records) (c .paths) (c .nodes) (c .names) (c .options) .sparse,
+        indexOf sha1Kind (c .records) (c .paths) (c .nodes) (c .names) (c .options) .sparse,
         means c x .sparse-tells,
-        claims_write.reads-back (c .records) (c .paths) (c .nodes) (c .names) (c .options) (c .out) (c .version) (c .size) (x .done) (x .few) (ends c x) (c .records′) (c .paths′) (c .nodes′) (x .slices) (roomy c x) ∙ answered c,
+        claims_write.reads-back sha1Kind (c .records) (c .paths) (c .nodes) (c .names) (c .options) (c .out) (c .version) (c .size) (x .done) (x .few) (ends c x) (c .records′) (c .paths′) (c .nodes′) (x .slices) (roomy c x) ∙ answered c,
       );
-      written-reads-back = λ c x. claims_write.written-reads-back (c .records) (c .paths) (c .nodes) (c .names) (c .options) (c .out) (c .version) (c .size) (x .done) (x .few) (ends c x) (c .records′) (c .paths′) (c .nodes′) (x .slices) (roomy c x) (x .table);
-      tree-reads-back = λ c x e. tree-reads-back-node-by-node (c .records) (c .paths) (c .nodes) (c .names) (c .options) (c .out) (c .version) (c .size) (x .done) (x .few) (ends c x) (c .records′) (c .paths′) (c .nodes′) (x .slices) (roomy c x) (both-asked (c .options) e .0) (both-asked (c .options) e .1);
+      written-reads-back = λ c x. claims_write.written-reads-back sha1Kind (c .records) (c .paths) (c .nodes) (c .names) (c .options) (c .out) (c .version) (c .size) (x .done) (x .few) (ends c x) (c .records′) (c .paths′) (c .nodes′) (x .slices) (roomy c x) (x .table);
+      tree-reads-back = λ c x e. tree-reads-back-node-by-node sha1Kind (c .records) (c .paths) (c .nodes) (c .names) (c .options) (c .out) (c .version) (c .size) (x .done) (x .few) (ends c x) (c .records′) (c .paths′) (c .nodes′) (x .slices) (roomy c x) (both-asked (c .options) e .0) (both-asked (c .options) e .1);
       written-is-spelled = λ c x. (
-        indexOf (c .records) (c .paths) (c .nodes) (c .names) (c .options),
-        spelled.written-is-spelled (c .records) (c .paths) (c .nodes) (c .names) (c .options) (c .out) (c .version) (c .size) (x .done) (ends c x),
+        indexOf sha1Kind (c .records) (c .paths) (c .nodes) (c .names) (c .options),
+        spelled.written-is-spelled sha1Kind (c .records) (c .paths) (c .nodes) (c .names) (c .options) (c .out) (c .version) (c .size) (x .done) (ends c x),
         means c x,
-        λ e. written-tree-is-the-tables (c .records) (c .paths) (c .nodes) (c .names) (c .options) (c .out) (c .version) (c .size) (x .done) (x .few) (ends c x) (c .records′) (c .paths′) (c .nodes′) (x .slices) (roomy c x) (both-asked (c .options) e .0) (both-asked (c .options) e .1),
+        λ e. written-tree-is-the-tables sha1Kind (c .records) (c .paths) (c .nodes) (c .names) (c .options) (c .out) (c .version) (c .size) (x .done) (x .few) (ends c x) (c .records′) (c .paths′) (c .nodes′) (x .slices) (roomy c x) (both-asked (c .options) e .0) (both-asked (c .options) e .1),
       );
-      eoie-is-found = λ c x e. eoie.eoie-is-found (c .records) (c .paths) (c .nodes) (c .names) (c .options) (c .out) (c .version) (c .size) (x .done) (has-eoie-is (c .records) (c .options) ∙ e) ∙ ap (λ (n : ℕ). Offset (fileAt n)) (offset-is (c .records) (c .paths));
+      eoie-is-found = λ c x e. eoie.eoie-is-found sha1Kind (c .records) (c .paths) (c .nodes) (c .names) (c .options) (c .out) (c .version) (c .size) (x .done) (has-eoie-is (c .records) (c .options) ∙ e) ∙ ap (λ (n : ℕ). Offset (fileAt n)) (offset-is idSize (lit≤ tt) (c .records) (c .paths));
     }
 
 pub finds : Finds lookupAt
@@ -131,7 +133,7 @@ finds =
       found-exactly = λ rs ps sorted key stage small i. ((λ (k, e). found-then-has rs ps sorted key stage small i k e), has-then-found rs ps sorted key stage small i);
     }
 
-pub demand-2 : Demand2 writer reader lookupAt
+pub demand-2 : Demand2 sha1Kind writer reader lookupAt
 demand-2 = record { answers = writer-answers; writes = writes-as-asked; reads-back = reads-back; finds = finds }
 
 -- ---- the halving rule

@@ -13,7 +13,9 @@ use Rattle.wire.specs.BigEndian.{beAt, bytesOf}
 use Rattle.slices.specs.Bytes.{nulIn, nulAt}
 use Rattle.format.specs.Format.{idSize, depthLimit}
 use Rattle.sha1.specs.Sha1.{rotl, ch, parity, maj, mixOf, constOf, zerosOf, padding, initial, wordsOf, nextWord, extend, schedule, turn, rounds, added, compress, hashBlocks, digestOf, sha1}
+use Rattle.kind.specs.Sha1.{sha1Kind}
 use Rattle.entry.specs.Mode.{keepMode}
+use Rattle.entry.specs.Paths.{Paths, lyingIn}
 use Rattle.entry.specs.Record.{recordsIn, recordOf, frontOf, restOf, fieldAt, liesInside, pathAt}
 use Rattle.node.specs.Store.{wordAt, isPart, partOf, nameInside, nameAt}
 use Rattle.siblings.specs.Siblings.{anyIn, twin, repeats, siblingsDiffer}
@@ -75,7 +77,7 @@ slices : Slices one-entry paths nodes
 unfolding allBytes
 slices = record { bytes = bytes-if one-entry refl; file = lit< tt; paths = lit< tt; nodes = lit< tt }
 
-good-trailer : GoodTrailer one-entry
+good-trailer : GoodTrailer sha1Kind one-entry
 good-trailer = zeros refl
 
 -- the entry takes the whole space
@@ -91,10 +93,10 @@ room (suc zero) ms rest h x =
     subst (λ (l : List Meaning). Fits records paths 1 l) (sym e) (record { records = lit≤ tt; paths = lit≤ tt })
 room (suc (suc k)) ms rest h x = absurd (omega arith)
 
-pub readable : Readable one-entry records paths nodes
+pub readable : Readable sha1Kind one-entry records paths nodes
 readable = record { slices = slices; trailer = good-trailer; room = room }
 
-pub tree-fits : TreeFits one-entry nodes
+pub tree-fits : TreeFits sha1Kind one-entry nodes
 tree-fits place body x =
     let (e, f, g) = entries-unique idSize 2 start 1 (space idSize one-entry) (x .ms) (the-entry ∷ []) (x .c) [] (x .b, x .joins, x .entries) (space idSize one-entry, refl, all-spelled) in
     absurd (none-last (x .last) (sym (extensions-length (x .extensions)) ∙ ap length f))
@@ -114,10 +116,10 @@ zeros-slices : Slices zeros-alone [] []
 unfolding allBytes
 zeros-slices = record { bytes = bytes-if zeros-alone refl; file = lit< tt; paths = lit< tt; nodes = lit< tt }
 
-pub zeros-readable : Readable zeros-alone [] [] []
+pub zeros-readable : Readable sha1Kind zeros-alone [] [] []
 zeros-readable = record { slices = zeros-slices; trailer = zeros refl; room = no-room-needed }
 
-pub zeros-tree-fits : TreeFits zeros-alone []
+pub zeros-tree-fits : TreeFits sha1Kind zeros-alone []
 zeros-tree-fits place body x =
     let empty : length (x .c) ≡ 0 = omega (arith, ap length (x .joins), length-append (x .b) (x .c)) in
     absurd (none-last (x .last) (sym (extensions-length (x .extensions)) ∙ empty))
@@ -157,12 +159,12 @@ case out version size =
       nodes′ = [];
     }
 
-pub roomy : (out : List ℕ) (version size : ℕ) → LargeEnough (case out version size)
+pub roomy : (out : List ℕ) (version size : ℕ) → LargeEnough sha1Kind (case out version size)
 unfolding table row store recordOf frontOf restOf fieldAt liesInside pathAt beAt bytesOf keepMode keptFrom pathsBytes
 roomy out version size = record { records = lit≤ tt; paths = lit≤ tt; nodes = λ e. lit≤ tt }
 
 -- it may be written, in 232 bytes
-pub may-be-written : MayBeWritten table store [] [] plain
+pub may-be-written : MayBeWritten sha1Kind table store [] [] plain
 unfolding table row store recordOf frontOf restOf fieldAt liesInside pathAt beAt bytesOf keepMode total
 may-be-written = record { inside = λ i x. page-sorted .inside i (x .there); proper = λ e. absurd (false≢true e); limits = record { records = lit≤ tt; bytes = lit≤ tt } }
 
@@ -175,7 +177,7 @@ room-for-it = lit≤ tt
 abbrev pub with-eoie : Options
 with-eoie = record { tree = false; cache = false; eoie = true; sparse = true; unhashed = true }
 
-pub eoie-may-be-written : MayBeWritten table store [] [] with-eoie
+pub eoie-may-be-written : MayBeWritten sha1Kind table store [] [] with-eoie
 unfolding table row store recordOf frontOf restOf fieldAt liesInside pathAt beAt bytesOf keepMode total
 eoie-may-be-written = record { inside = λ i x. page-sorted .inside i (x .there); proper = λ e. absurd (false≢true e); limits = record { records = lit≤ tt; bytes = lit≤ tt } }
 
@@ -202,47 +204,51 @@ with-sdir = record { tree = false; cache = false; eoie = false; sparse = true; u
 abbrev pub root : List ℕ
 root = replicate 32 0 ++ (replicate 8 255 ++ replicate 32 0)
 
-no-record : PathsInside [] []
+-- no path is anywhere
+abbrev pub no-paths : Paths
+no-paths = lyingIn []
+
+no-record : PathsInside [] no-paths
 no-record i x = absurd (omega (arith, x .there))
 
-pub hash-may-be-written : MayBeWritten [] [] [] [] with-hash
+pub hash-may-be-written : MayBeWritten sha1Kind [] no-paths [] [] with-hash
 unfolding total
 hash-may-be-written = record { inside = no-record; proper = λ e. absurd (false≢true e); limits = record { records = lit≤ tt; bytes = lit≤ tt } }
 
-pub hash-size : fileSize idSize [] [] [] [] with-hash ≡ 32
+pub hash-size : fileSize idSize [] no-paths [] [] with-hash ≡ 32
 unfolding total
 hash-size = refl
 
-pub tree-may-be-written : MayBeWritten [] [] root [] with-tree
+pub tree-may-be-written : MayBeWritten sha1Kind [] no-paths root [] with-tree
 unfolding total nulIn nulAt beAt wordAt isPart partOf nameInside nameAt anyIn twin repeats siblingsDiffer parentFits countFits holdsNone nameFits climbs nodeFits childCount kidsFit allIn isProper digitsWithin
 tree-may-be-written = record { inside = no-record; proper = λ e. proper-exactly-in-words depthLimit root [] .0 refl; limits = record { records = lit≤ tt; bytes = lit≤ tt } }
 
-pub tree-size : fileSize idSize [] [] root [] with-tree ≡ 65
+pub tree-size : fileSize idSize [] no-paths root [] with-tree ≡ 65
 unfolding total beAt wordAt isPart partOf nameInside nameAt digitsWithin
 tree-size = refl
 
-pub sdir-may-be-written : MayBeWritten [] [] [] [] with-sdir
+pub sdir-may-be-written : MayBeWritten sha1Kind [] no-paths [] [] with-sdir
 unfolding total
 sdir-may-be-written = record { inside = no-record; proper = λ e. absurd (false≢true e); limits = record { records = lit≤ tt; bytes = lit≤ tt } }
 
-pub sdir-size : fileSize idSize [] [] [] [] with-sdir ≡ 40
+pub sdir-size : fileSize idSize [] no-paths [] [] with-sdir ≡ 40
 unfolding total
 sdir-size = refl
 
 -- the last two to a writer that is deaf to them
-pub treeless-may-be-written : MayBeWritten [] [] root [] (record { tree = false; cache = true; eoie = false; sparse = false; unhashed = true })
+pub treeless-may-be-written : MayBeWritten sha1Kind [] no-paths root [] (record { tree = false; cache = true; eoie = false; sparse = false; unhashed = true })
 unfolding total
 treeless-may-be-written = record { inside = no-record; proper = λ e. absurd (false≢true e); limits = record { records = lit≤ tt; bytes = lit≤ tt } }
 
-pub treeless-size : fileSize idSize [] [] root [] (record { tree = false; cache = true; eoie = false; sparse = false; unhashed = true }) ≡ 32
+pub treeless-size : fileSize idSize [] no-paths root [] (record { tree = false; cache = true; eoie = false; sparse = false; unhashed = true }) ≡ 32
 unfolding total
 treeless-size = refl
 
-pub markless-may-be-written : MayBeWritten [] [] [] [] plain
+pub markless-may-be-written : MayBeWritten sha1Kind [] no-paths [] [] plain
 unfolding total
 markless-may-be-written = record { inside = no-record; proper = λ e. absurd (false≢true e); limits = record { records = lit≤ tt; bytes = lit≤ tt } }
 
-pub markless-size : fileSize idSize [] [] [] [] plain ≡ 32
+pub markless-size : fileSize idSize [] no-paths [] [] plain ≡ 32
 unfolding total
 markless-size = refl
 

@@ -7,7 +7,8 @@ use mathlib.Core.List.{List, []}
 use contract.Lifetimes.{Lfts}
 use denote.Ref.{now}
 use borrow.Fn.Kinds.{PK, RK, Out, Dens}
-use Rattle.format.specs.Format.{depthLimit, idSize}
+use Rattle.format.specs.Format.{depthLimit}
+use Rattle.kind.specs.Sha1.{sha1Kind}
 use Rattle.sha1.specs.Sha1 as fips
 use Rattle.sha1.specs.Pieces.{digestAfter, fed, finished}
 use Rattle.sha1.specs.declared.Digest.{Digest}
@@ -21,6 +22,7 @@ use Rattle.write.specs.File as writing
 use Rattle.write.specs.declared.Options.{Options}
 use Rattle.write.specs.declared.Answer.{Answer as Wrote}
 use Rattle.sha1.proofs as sha1
+use Rattle.entry.specs.Paths.{Paths, lyingIn}
 use Rattle.access.proofs as access
 use Rattle.file.proofs as file
 use Rattle.write.proofs as write
@@ -40,32 +42,32 @@ pub data FileReadCall : (s rs ps ns : List ℕ) → Answer → (rs′ ps′ ns�
   called : (c : Call file.read.Kinds.ps file.read.Kinds.r file.read.Reads.Learnt)
       → FileReadCall (now (c .args .0)) (now (c .args .1 .0)) (now (c .args .1 .1 .0)) (now (c .args .1 .1 .1 .0)) (c .answer) (c .left .1 .0) (c .left .1 .1 .0) (c .left .1 .1 .1 .0)
 
-pub file-read-answers : {s rs ps ns rs′ ps′ ns′ : List ℕ} {a : Answer} → FileReadCall s rs ps ns a rs′ ps′ ns′ → reading.outcome a rs′ ps′ ns′ ≡ reading.readFile idSize depthLimit s rs ps ns
+pub file-read-answers : {s rs ps ns rs′ ps′ ns′ : List ℕ} {a : Answer} → FileReadCall s rs ps ns a rs′ ps′ ns′ → reading.outcome a rs′ ps′ ns′ ≡ reading.readFile sha1Kind depthLimit s rs ps ns
 file-read-answers (called c) = c .meets
 
 -- ---- `write::write_to`, of a record table, a node table, what is asked for and an output: its answer, and what the output holds then
 
-pub data WriteToCall : (rs ps ns nm : List ℕ) → Options → (out : List ℕ) → Wrote → (out′ : List ℕ) → Type 0 where
+pub data WriteToCall : (rs : List ℕ) (ps : Paths) (ns nm : List ℕ) → Options → (out : List ℕ) → Wrote → (out′ : List ℕ) → Type 0 where
   called : (c : Call write.write_to.Kinds.ps write.write_to.Kinds.r write.write_to.Reads.Learnt)
-      → WriteToCall (now (c .args .0)) (now (c .args .1 .0)) (now (c .args .1 .1 .0)) (now (c .args .1 .1 .1 .0)) (c .args .1 .1 .1 .1 .0) (now (c .args .1 .1 .1 .1 .1 .0)) (c .answer) (c .left .1 .1 .1 .1 .1 .0)
+      → WriteToCall (now (c .args .0)) (lyingIn (now (c .args .1 .0))) (now (c .args .1 .1 .0)) (now (c .args .1 .1 .1 .0)) (c .args .1 .1 .1 .1 .0) (now (c .args .1 .1 .1 .1 .1 .0)) (c .answer) (c .left .1 .1 .1 .1 .1 .0)
 
-pub write-to-answers : {rs ps ns nm out out′ : List ℕ} {o : Options} {a : Wrote} → WriteToCall rs ps ns nm o out a out′ → writing.outcome a out′ ≡ writing.writeAll idSize fips.sha1 depthLimit rs ps ns nm o out
+pub write-to-answers : {rs : List ℕ} {ps : Paths} {ns nm out out′ : List ℕ} {o : Options} {a : Wrote} → WriteToCall rs ps ns nm o out a out′ → writing.outcome a out′ ≡ writing.writeAll sha1Kind depthLimit rs ps ns nm o out
 write-to-answers (called c) = c .meets
 
 -- ---- `access::lookup` and `access::verify::verify_entries`, of a record table: their answers
 
-pub data AccessLookupCall : (rs ps key : List ℕ) (stage : ℕ) → Found → Type 0 where
+pub data AccessLookupCall : (rs : List ℕ) (ps : Paths) (key : List ℕ) (stage : ℕ) → Found → Type 0 where
   called : (c : Call access.lookup.Kinds.ps access.lookup.Kinds.r access.lookup.Reads.Learnt)
-      → AccessLookupCall (now (c .args .0)) (now (c .args .1 .0)) (now (c .args .1 .1 .0)) (c .args .1 .1 .1 .0) (c .answer)
+      → AccessLookupCall (now (c .args .0)) (lyingIn (now (c .args .1 .0))) (now (c .args .1 .1 .0)) (c .args .1 .1 .1 .0) (c .answer)
 
-pub access-lookup-answers : {rs ps key : List ℕ} {stage : ℕ} {a : Found} → AccessLookupCall rs ps key stage a → a ≡ lookupAt rs ps key stage
+pub access-lookup-answers : {rs : List ℕ} {ps : Paths} {key : List ℕ} {stage : ℕ} {a : Found} → AccessLookupCall rs ps key stage a → a ≡ lookupAt rs ps key stage
 access-lookup-answers (called c) = c .meets
 
-pub data VerifyEntriesCall : (rs ps : List ℕ) → Verified → Type 0 where
+pub data VerifyEntriesCall : (rs : List ℕ) (ps : Paths) → Verified → Type 0 where
   called : (c : Call access.verify.verify_entries.Kinds.ps access.verify.verify_entries.Kinds.r access.verify.verify_entries.Reads.Learnt)
-      → VerifyEntriesCall (now (c .args .0)) (now (c .args .1 .0)) (c .answer)
+      → VerifyEntriesCall (now (c .args .0)) (lyingIn (now (c .args .1 .0))) (c .answer)
 
-pub verify-entries-answers : {rs ps : List ℕ} {a : Verified} → VerifyEntriesCall rs ps a → a ≡ verifyAt rs ps
+pub verify-entries-answers : {rs : List ℕ} {ps : Paths} {a : Verified} → VerifyEntriesCall rs ps a → a ≡ verifyAt rs ps
 verify-entries-answers (called c) = c .meets
 
 -- ---- the digest: a new one, one fed with a piece, what it finishes with, and the SHA-1 of bytes at once

@@ -8,6 +8,8 @@ use denote.Ref.{now}
 use Rattle.wire.specs.Places.{fileAt}
 use Rattle.format.specs.Format.{depthLimit, headerSize, idSize}
 use Rattle.sha1.specs.Sha1.{sha1}
+use Rattle.kind.specs.Sha1.{sha1Kind}
+use Rattle.entry.specs.Paths.{Paths, lyingIn}
 use Rattle.entry.specs.Record.{idAt}
 use Rattle.decode.specs.Bounds.{maxEntries}
 use Rattle.decode.specs.Entries.{readEntries}
@@ -34,7 +36,7 @@ pub data ReadCall : (s rs ps ns : List ℕ) (code : ℕ) (values rs′ ps′ ns�
       → ReadCall (now (c .args .0)) (now (c .args .1 .0)) (now (c .args .1 .1 .0)) (now (c .args .1 .1 .1 .0)) (c .answer) (c .left .1 .1 .1 .1 .0) (c .left .1 .0) (c .left .1 .1 .0) (c .left .1 .1 .1 .0)
 
 pub read-tells : {s rs ps ns values rs′ ps′ ns′ : List ℕ} {code : ℕ} → ReadCall s rs ps ns code values rs′ ps′ ns′
-    → told code values (rs′ ∷ ps′ ∷ ns′ ∷ []) ≡ tellRead (readFile idSize depthLimit s rs ps ns)
+    → told code values (rs′ ∷ ps′ ∷ ns′ ∷ []) ≡ tellRead (readFile sha1Kind depthLimit s rs ps ns)
 read-tells (called c) = c .meets
 
 -- of a file, a version, a count and two stores
@@ -67,12 +69,12 @@ sha1-tells (called c) = c .meets
 -- ---- writing
 
 -- of a record table, a node table, what is asked for and an output
-pub data WriteCall : (rs ps ns nm : List ℕ) (options : ℕ) (out : List ℕ) (code : ℕ) (values out′ : List ℕ) → Type 0 where
+pub data WriteCall : (rs : List ℕ) (ps : Paths) (ns nm : List ℕ) (options : ℕ) (out : List ℕ) (code : ℕ) (values out′ : List ℕ) → Type 0 where
   called : (c : Call sparrowpivot.writing.sparrowpivot_write.Kinds.ps sparrowpivot.writing.sparrowpivot_write.Kinds.r sparrowpivot.writing.sparrowpivot_write.Reads.Learnt)
-      → WriteCall (now (c .args .0)) (now (c .args .1 .0)) (now (c .args .1 .1 .0)) (now (c .args .1 .1 .1 .0)) (c .args .1 .1 .1 .1 .0) (now (c .args .1 .1 .1 .1 .1 .0)) (c .answer) (c .left .1 .1 .1 .1 .1 .1 .0) (c .left .1 .1 .1 .1 .1 .0)
+      → WriteCall (now (c .args .0)) (lyingIn (now (c .args .1 .0))) (now (c .args .1 .1 .0)) (now (c .args .1 .1 .1 .0)) (c .args .1 .1 .1 .1 .0) (now (c .args .1 .1 .1 .1 .1 .0)) (c .answer) (c .left .1 .1 .1 .1 .1 .1 .0) (c .left .1 .1 .1 .1 .1 .0)
 
-pub write-tells : {rs ps ns nm out values out′ : List ℕ} {options code : ℕ} → WriteCall rs ps ns nm options out code values out′
-    → told code values (out′ ∷ []) ≡ tellWrite (writeAll idSize sha1 depthLimit rs ps ns nm (optionsFrom options) out)
+pub write-tells : {rs : List ℕ} {ps : Paths} {ns nm out values out′ : List ℕ} {options code : ℕ} → WriteCall rs ps ns nm options out code values out′
+    → told code values (out′ ∷ []) ≡ tellWrite (writeAll sha1Kind depthLimit rs ps ns nm (optionsFrom options) out)
 write-tells (called c) = c .meets
 
 -- ---- extensions
@@ -83,7 +85,7 @@ pub data EoieCall : (s : List ℕ) (code : ℕ) (values : List ℕ) → Type 0 w
       → EoieCall (now (c .args .0)) (c .answer) (c .left .1 .0)
 
 pub eoie-tells : {s values : List ℕ} {code : ℕ} → EoieCall s code values
-    → told code values [] ≡ tellOffset (offsetIn idSize sha1 s)
+    → told code values [] ≡ tellOffset (offsetIn sha1Kind s)
 eoie-tells (called c) = c .meets
 
 -- of a file and the place where its extensions begin
@@ -107,31 +109,31 @@ ieot-pair-tells (called c) = c .meets
 -- ---- searching
 
 -- of a record table, a path and a stage
-pub data LookupCall : (rs ps key : List ℕ) (stage code : ℕ) (values : List ℕ) → Type 0 where
+pub data LookupCall : (rs : List ℕ) (ps : Paths) (key : List ℕ) (stage code : ℕ) (values : List ℕ) → Type 0 where
   called : (c : Call sparrowpivot.searching.sparrowpivot_lookup.Kinds.ps sparrowpivot.searching.sparrowpivot_lookup.Kinds.r sparrowpivot.searching.sparrowpivot_lookup.Reads.Learnt)
-      → LookupCall (now (c .args .0)) (now (c .args .1 .0)) (now (c .args .1 .1 .0)) (c .args .1 .1 .1 .0) (c .answer) (c .left .1 .1 .1 .1 .0)
+      → LookupCall (now (c .args .0)) (lyingIn (now (c .args .1 .0))) (now (c .args .1 .1 .0)) (c .args .1 .1 .1 .0) (c .answer) (c .left .1 .1 .1 .1 .0)
 
-pub lookup-tells : {rs ps key values : List ℕ} {stage code : ℕ} → LookupCall rs ps key stage code values
+pub lookup-tells : {rs : List ℕ} {ps : Paths} {key values : List ℕ} {stage code : ℕ} → LookupCall rs ps key stage code values
     → told code values [] ≡ tellFound (lookupAt rs ps key stage)
 lookup-tells (called c) = c .meets
 
 -- of a record table
-pub data CheckOrderCall : (rs ps : List ℕ) (code : ℕ) (values : List ℕ) → Type 0 where
+pub data CheckOrderCall : (rs : List ℕ) (ps : Paths) (code : ℕ) (values : List ℕ) → Type 0 where
   called : (c : Call sparrowpivot.searching.sparrowpivot_check_order.Kinds.ps sparrowpivot.searching.sparrowpivot_check_order.Kinds.r sparrowpivot.searching.sparrowpivot_check_order.Reads.Learnt)
-      → CheckOrderCall (now (c .args .0)) (now (c .args .1 .0)) (c .answer) (c .left .1 .1 .0)
+      → CheckOrderCall (now (c .args .0)) (lyingIn (now (c .args .1 .0))) (c .answer) (c .left .1 .1 .0)
 
-pub check-order-tells : {rs ps values : List ℕ} {code : ℕ} → CheckOrderCall rs ps code values
+pub check-order-tells : {rs : List ℕ} {ps : Paths} {values : List ℕ} {code : ℕ} → CheckOrderCall rs ps code values
     → told code values [] ≡ tellVerified (verifyAt rs ps)
 check-order-tells (called c) = c .meets
 
 -- ---- tables
 
 -- of a record table and a record's index
-pub data RecordCall : (rs ps : List ℕ) (i code : ℕ) (values : List ℕ) → Type 0 where
+pub data RecordCall : (rs : List ℕ) (ps : Paths) (i code : ℕ) (values : List ℕ) → Type 0 where
   called : (c : Call sparrowpivot.tables.sparrowpivot_record.Kinds.ps sparrowpivot.tables.sparrowpivot_record.Kinds.r sparrowpivot.tables.sparrowpivot_record.Reads.Learnt)
-      → RecordCall (now (c .args .0)) (now (c .args .1 .0)) (c .args .1 .1 .0) (c .answer) (c .left .1 .1 .1 .0)
+      → RecordCall (now (c .args .0)) (lyingIn (now (c .args .1 .0))) (c .args .1 .1 .0) (c .answer) (c .left .1 .1 .1 .0)
 
-pub record-tells : {rs ps values : List ℕ} {i code : ℕ} → RecordCall rs ps i code values
+pub record-tells : {rs : List ℕ} {ps : Paths} {values : List ℕ} {i code : ℕ} → RecordCall rs ps i code values
     → told code values [] ≡ tellRecord rs ps i
 record-tells (called c) = c .meets
 

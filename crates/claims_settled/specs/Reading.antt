@@ -95,8 +95,8 @@ decode-decode-settled κs a z z′ w w′ = settled (λ r. (r, w))
 
 -- ---- `extension`
 
-pub walk-settled : Settles extension.decode.walk.Kinds.ps extension.decode.walk.Kinds.r extension.decode.walk.Reads.Learnt
-walk-settled κs a z z′ w w′ = settled (λ r. (r, w))
+pub all-settled : Settles extension.decode.all.Kinds.ps extension.decode.all.Kinds.r extension.decode.all.Reads.Learnt
+all-settled κs a z z′ w w′ = settled (λ r. (r, w))
 
 pub end-of-index-entry-decode-settled : Settles extension.end_of_index_entry.decode.Kinds.ps extension.end_of_index_entry.decode.Kinds.r extension.end_of_index_entry.decode.Reads.Learnt
 end-of-index-entry-decode-settled κs a z z′ w w′ = settled (λ r. (r, w))

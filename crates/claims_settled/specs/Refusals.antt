@@ -8,7 +8,8 @@ use lib.Dec.{ltb}
 use lib.ListN.{length, drop}
 use Rattle.laws.specs.Pick.{pick}
 use Rattle.format.specs.Format.{depthLimit, idSize}
-use Rattle.sha1.specs.Sha1.{sha1}
+use Rattle.kind.specs.Sha1.{sha1Kind}
+use Rattle.entry.specs.Paths.{Paths}
 use Rattle.entry.specs.Record.{recordsIn}
 use Rattle.access.proofs as access
 use Rattle.grammar.specs.Entry.{Meaning, start, Entries}
@@ -55,8 +56,8 @@ module _ (s rs ps ns : List ℕ) (slices : Slices s ps ns) (rs′ ps′ ns′ : 
   Leaves a = FileReadCall s rs ps ns a rs′ ps′ ns′
 
   -- whatever it answers and leaves is as the rule of that answer says
-  pub call-says : {a : Answer} → Leaves a → SaysFile s rs ps ns (file.outcome a rs′ ps′ ns′)
-  call-says c = subst (SaysFile s rs ps ns) (sym (file-read-answers c)) (answer-says s rs ps ns slices)
+  pub call-says : {a : Answer} → Leaves a → SaysFile sha1Kind s rs ps ns (file.outcome a rs′ ps′ ns′)
+  call-says c = subst (SaysFile sha1Kind s rs ps ns) (sym (file-read-answers c)) (answer-says sha1Kind s rs ps ns slices)
 
   abbrev pub Untouched : Type 0
   Untouched = AsTheyWere rs ps ns rs′ ps′ ns′
@@ -68,64 +69,64 @@ module _ (s rs ps ns : List ℕ) (slices : Slices s ps ns) (rs′ ps′ ns′ : 
   pub after-1 : Leaves answer.ShortFile → Untouched
   after-1 e = to (call-says e)
     where
-      to : {r p n : List ℕ} → SaysFile s rs ps ns (file.outcome answer.ShortFile r p n) → AsTheyWere rs ps ns r p n
+      to : {r p n : List ℕ} → SaysFile sha1Kind s rs ps ns (file.outcome answer.ShortFile r p n) → AsTheyWere rs ps ns r p n
       to (says-short h) = record { records = refl; paths = refl; nodes = refl }
 
   pub after-2 : Leaves answer.NoSignature → Untouched
   after-2 e = to (call-says e)
     where
-      to : {r p n : List ℕ} → SaysFile s rs ps ns (file.outcome answer.NoSignature r p n) → AsTheyWere rs ps ns r p n
+      to : {r p n : List ℕ} → SaysFile sha1Kind s rs ps ns (file.outcome answer.NoSignature r p n) → AsTheyWere rs ps ns r p n
       to (says-no-signature h d) = record { records = refl; paths = refl; nodes = refl }
 
   pub after-3 : (version : ℕ) → Leaves (answer.OtherVersion version) → Untouched
   after-3 version e = to (call-says e)
     where
-      to : {version : ℕ} {r p n : List ℕ} → SaysFile s rs ps ns (file.outcome (answer.OtherVersion version) r p n) → AsTheyWere rs ps ns r p n
+      to : {version : ℕ} {r p n : List ℕ} → SaysFile sha1Kind s rs ps ns (file.outcome (answer.OtherVersion version) r p n) → AsTheyWere rs ps ns r p n
       to (says-other-version h d f) = record { records = refl; paths = refl; nodes = refl }
 
   pub after-4 : Leaves answer.BadTrailer → Untouched
   after-4 e = to (call-says e)
     where
-      to : {r p n : List ℕ} → SaysFile s rs ps ns (file.outcome answer.BadTrailer r p n) → AsTheyWere rs ps ns r p n
+      to : {r p n : List ℕ} → SaysFile sha1Kind s rs ps ns (file.outcome answer.BadTrailer r p n) → AsTheyWere rs ps ns r p n
       to (says-bad-trailer g t) = record { records = refl; paths = refl; nodes = refl }
 
   -- 5 and 6: the entries before k, rest untouched
   pub after-5 : (k : ℕ) → Leaves (answer.NotSpelled k) → Holds k ns
   after-5 k e = to (call-says e)
     where
-      to : {k : ℕ} {r p n : List ℕ} → SaysFile s rs ps ns (file.outcome (answer.NotSpelled k) r p n) → FirstEntries s rs ps k ns r p n
+      to : {k : ℕ} {r p n : List ℕ} → SaysFile sha1Kind s rs ps ns (file.outcome (answer.NotSpelled k) r p n) → FirstEntries s rs ps k ns r p n
       to (says-not-spelled o {b = b} {ms = ms} rest h i x f none-left) = record { before = b; behind = rest; ms = ms; joins = i; spelled = x; records = refl; paths = refl; node-store = refl }
 
   pub after-6 : (k : ℕ) → Leaves (answer.NoEntryRoom k) → Holds k ns
   after-6 k e = to (call-says e)
     where
-      to : {k : ℕ} {r p n : List ℕ} → SaysFile s rs ps ns (file.outcome (answer.NoEntryRoom k) r p n) → FirstEntries s rs ps k ns r p n
+      to : {k : ℕ} {r p n : List ℕ} → SaysFile sha1Kind s rs ps ns (file.outcome (answer.NoEntryRoom k) r p n) → FirstEntries s rs ps k ns r p n
       to (says-no-entry-room o {b = b} {ms = ms} rest q h i x f y lacks) = record { before = b; behind = rest; ms = ms; joins = i; spelled = x; records = refl; paths = refl; node-store = refl }
 
   -- 7 and 8: all entries, nodes untouched
   pub after-7 : (place : ℕ) → Leaves (answer.NotFilled place) → Holds (countOf s) ns
   after-7 place e = to (call-says e)
     where
-      to : {place : ℕ} {r p n : List ℕ} → SaysFile s rs ps ns (file.outcome (answer.NotFilled place) r p n) → FirstEntries s rs ps (countOf s) ns r p n
+      to : {place : ℕ} {r p n : List ℕ} → SaysFile sha1Kind s rs ps ns (file.outcome (answer.NotFilled place) r p n) → FirstEntries s rs ps (countOf s) ns r p n
       to (says-not-filled o {b = b} {c = c} {ms = ms} a f) = record { before = b; behind = c; ms = ms; joins = a .joins; spelled = a .spelled; records = refl; paths = refl; node-store = refl }
 
   pub after-8 : (signature : ℕ) → Leaves (answer.Mandatory signature) → Holds (countOf s) ns
   after-8 signature e = to (call-says e)
     where
-      to : {signature : ℕ} {r p n : List ℕ} → SaysFile s rs ps ns (file.outcome (answer.Mandatory signature) r p n) → FirstEntries s rs ps (countOf s) ns r p n
+      to : {signature : ℕ} {r p n : List ℕ} → SaysFile sha1Kind s rs ps ns (file.outcome (answer.Mandatory signature) r p n) → FirstEntries s rs ps (countOf s) ns r p n
       to (says-mandatory o {b = b} {c = c} {ms = ms} a f) = record { before = b; behind = c; ms = ms; joins = a .joins; spelled = a .spelled; records = refl; paths = refl; node-store = refl }
 
   -- 9 and 10: all entries, node store zeroed
   pub after-9 : Leaves answer.TooDeep → Holds (countOf s) (zeroed ns)
   after-9 e = to (call-says e)
     where
-      to : {r p n : List ℕ} → SaysFile s rs ps ns (file.outcome answer.TooDeep r p n) → FirstEntries s rs ps (countOf s) (zeroed ns) r p n
+      to : {r p n : List ℕ} → SaysFile sha1Kind s rs ps ns (file.outcome answer.TooDeep r p n) → FirstEntries s rs ps (countOf s) (zeroed ns) r p n
       to (says-too-deep o {b = b} {c = c} {ms = ms} w d) = record { before = b; behind = c; ms = ms; joins = w .entries .joins; spelled = w .entries .spelled; records = refl; paths = refl; node-store = refl }
 
   pub after-10 : Leaves answer.NoNodeRoom → Holds (countOf s) (zeroed ns)
   after-10 e = to (call-says e)
     where
-      to : {r p n : List ℕ} → SaysFile s rs ps ns (file.outcome answer.NoNodeRoom r p n) → FirstEntries s rs ps (countOf s) (zeroed ns) r p n
+      to : {r p n : List ℕ} → SaysFile sha1Kind s rs ps ns (file.outcome answer.NoNodeRoom r p n) → FirstEntries s rs ps (countOf s) (zeroed ns) r p n
       to (says-no-node-room o {b = b} {c = c} {ms = ms} w u d) = record { before = b; behind = c; ms = ms; joins = w .entries .joins; spelled = w .entries .spelled; records = refl; paths = refl; node-store = refl }
 
 -- ---- LOOKUP AND ORDER CHECK, 11 to 13: nothing is lent to be written, so whatever they answer there is nothing that a call could leave otherwise
@@ -138,13 +139,13 @@ after-13 κs a w w′ = refl
 
 -- ---- THE WRITER, 12 and 14 to 16: the output is as it was
 
-module _ (rs ps ns nm : List ℕ) (o : Options) (out : List ℕ) where
+module _ (rs : List ℕ) (ps : Paths) (ns nm : List ℕ) (o : Options) (out : List ℕ) where
   -- what writing comes to: it is done, or the output is as it was
   data Kept : write.Outcome → Type 0 where
     done : (version size : ℕ) (out′ : List ℕ) → Kept (write.outcome (Done version size) out′)
     refused : (a : Wrote) → Kept (write.outcome a out)
 
-  kept : Kept (write.writeAll idSize sha1 depthLimit rs ps ns nm o out)
+  kept : Kept (write.writeAll sha1Kind depthLimit rs ps ns nm o out)
   unfolding write.writeAll write.writeFile
   kept = by (firstFault rs ps (recordsIn rs) 0) (write.treeFits depthLimit ns nm (write.writesTree o)) (ltb write.most (recordsIn rs)) (ltb write.most (length body)) (ltb (length out) (length whole))
     where
@@ -152,7 +153,7 @@ module _ (rs ps ns nm : List ℕ) (o : Options) (out : List ℕ) where
       body = write.bodyBytes idSize depthLimit rs ps ns nm o
 
       whole : List ℕ
-      whole = write.fileBytes idSize sha1 depthLimit rs ps ns nm o
+      whole = write.fileBytes sha1Kind depthLimit rs ps ns nm o
 
       by : (f : First) (t a b c : Bool)
           → Kept (onFirst f (λ i. write.outcome (PathOutside i) out) (pick t (pick a (write.outcome TooLarge out) (pick b (write.outcome TooLarge out) (pick c (write.outcome (ShortOutput (length whole)) out) (write.outcome (Done (write.versionOf rs) (length whole)) (whole ++ drop (length whole) out))))) (write.outcome NotProper out)))

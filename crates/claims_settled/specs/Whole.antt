@@ -6,13 +6,14 @@ use lib.ListN.{length, getD}
 use denote.Ref.{now}
 use borrow.Fn.Kinds.{Dens}
 use Rattle.laws.specs.Put.{put}
-use Rattle.format.specs.Format.{idSize, depthLimit}
-use Rattle.listing.specs.Listed.{listed}
-use Rattle.listing.specs.Fits.{listingRoom, listing-whole}
-use Rattle.listing.proofs as listing
+use Rattle.format.specs.Format.{depthLimit}
+use Rattle.kind.specs.Sha1.{sha1Kind}
+use Rattle.list_text.specs.Listed.{listed}
+use Rattle.list_text.specs.Fits.{listingRoom, listing-whole}
+use Rattle.list_text.proofs as list_text
 use Rattle.claims_settled.specs.Law.{Result, Stores, Meets}
 
-module _ (κs : _) (a : Dens κs listing.list_file.Kinds.ps) (z : Result listing.list_file.Kinds.ps listing.list_file.Kinds.r κs) (w : Stores listing.list_file.Kinds.ps listing.list_file.Kinds.r κs a) where
-  pub list-file-puts-the-whole-listing : Meets listing.list_file.Kinds.ps listing.list_file.Kinds.r listing.list_file.Reads.Learnt κs a z w → ((i : ℕ) → getD (now (a .0)) i 0 < 256) → listingRoom ≤ length (now (a .1 .0))
-      → (z ≡ length (listed idSize depthLimit (now (a .0)))) × (w .1 .0 ≡ put (now (a .1 .0)) 0 (listed idSize depthLimit (now (a .0))))
+module _ (κs : _) (a : Dens κs list_text.list_file.Kinds.ps) (z : Result list_text.list_file.Kinds.ps list_text.list_file.Kinds.r κs) (w : Stores list_text.list_file.Kinds.ps list_text.list_file.Kinds.r κs a) where
+  pub list-file-puts-the-whole-listing : Meets list_text.list_file.Kinds.ps list_text.list_file.Kinds.r list_text.list_file.Reads.Learnt κs a z w → ((i : ℕ) → getD (now (a .0)) i 0 < 256) → listingRoom ≤ length (now (a .1 .0))
+      → (z ≡ length (listed sha1Kind depthLimit (now (a .0)))) × (w .1 .0 ≡ put (now (a .1 .0)) 0 (listed sha1Kind depthLimit (now (a .0))))
   list-file-puts-the-whole-listing m bytes room = listing-whole (now (a .0)) bytes z (now (a .1 .0)) (w .1 .0) m room

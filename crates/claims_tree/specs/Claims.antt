@@ -14,8 +14,8 @@ use borrow.Author.Tests.{le-ltb}
 use Rattle.laws.specs.Pick.{pick}
 use Rattle.laws.specs.Put.{put-front}
 use Rattle.laws.specs.Tests.{Same, same, differs, same?}
+use Rattle.format.specs.Format.{idRoom}
 use Rattle.node.specs.Head.{minusOne}
-use Rattle.node.specs.Store.{idRoom}
 use Rattle.tree.specs.declared.Step.the-variants.{Read, Stops}
 use Rattle.tree.specs.declared.Fault.the-variants.{Unspelled}
 use Rattle.tree.specs.declared.TreeAnswer.{TreeAnswer}

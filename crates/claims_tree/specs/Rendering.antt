@@ -4,8 +4,8 @@ use Prim.Native.Nat.{ℕ, suc, _+_, _-_}
 use mathlib.Core.List.{List, [], _++_}
 use lib.ListN.{length, drop, replicate}
 use Rattle.wire.specs.BigEndian.{bytesOf}
+use Rattle.format.specs.Format.{idRoom}
 use Rattle.node.specs.Head.{minusOne}
-use Rattle.node.specs.Store.{idRoom}
 use Rattle.grammar.specs.Number.{Count, covers, invalid}
 use Rattle.grammar.specs.Tree.{Tree, tree, Subtrees, childless, beside, nodes}
 

@@ -10,9 +10,10 @@ use lib.ListN.{length, getD, take, drop, replicate, length-append, length-drop, 
 use lib.Seq.{drop-drop, drop-at, take-at, take-length, getD-drop}
 use borrow.Author.Tests.{lt-ltb}
 use Rattle.wire.specs.BigEndian.{beAt, be-same, be-left}
+use Rattle.format.specs.Format.{idRoom}
 use Rattle.node.specs.declared.Node.{Node as Fields}
 use Rattle.node.specs.Head.{minusOne}
-use Rattle.node.specs.Store.{idRoom, nodesIn, numbersOf, idOf, nodeOf, wordAt, nameStartAt, nameEndAt, countAt, subtreesAt, parentAt, idAt, nameAt}
+use Rattle.node.specs.Store.{nodesIn, numbersOf, idOf, nodeOf, wordAt, nameStartAt, nameEndAt, countAt, subtreesAt, parentAt, idAt, nameAt}
 use Rattle.node.specs.Laws.{length-numbers, length-node, start-found, stop-found, count-found, subtrees-found, parent-found, name-part}
 use Rattle.tree.specs.declared.TreeAnswer.the-variants.{Tree as IsTree}
 use Rattle.tree.specs.Tree.{readTree}

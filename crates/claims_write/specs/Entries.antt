@@ -13,6 +13,7 @@ use Rattle.laws.specs.Tests.{Less, less, not-less, less?, Same, same, differs, 
 use Rattle.laws.specs.Times.{done, more}
 use Rattle.wire.specs.BigEndian.{beAt, bytesOf, length-bytes, be-bytes}
 use Rattle.entry.specs.Flags.{toStorage, extendedToStorage, keepFlags}
+use Rattle.entry.specs.Paths.{Paths}
 use Rattle.entry.specs.Record.{recordsIn, fieldAt, flagsAt, idAt, pathAt}
 use Rattle.entry.specs.Laws.{field-is, id-is}
 use Rattle.grammar.specs.Number.{bigEndian, BigEndian, big-endian}
@@ -112,7 +113,7 @@ module _ (rs : List ℕ) (i : ℕ) (here : i < recordsIn rs) where
 
 -- ---- the entry
 
-pub entry-spelled : (n version : ℕ) (before : Before) (rs ps : List ℕ) (i : ℕ) → n ≤ 32 → (version ≡ 4 → ⊥) → i < recordsIn rs → PathEnds (pathAt rs ps i)
+pub entry-spelled : (n version : ℕ) (before : Before) (rs : List ℕ) (ps : Paths) (i : ℕ) → n ≤ 32 → (version ≡ 4 → ⊥) → i < recordsIn rs → PathEnds (pathAt rs ps i)
     → Entry n version before (entryOf n rs i (pathAt rs ps i)) (meaningOf n rs ps i)
 unfolding entryOf
 entry-spelled n version before rs ps i small v here ends =
@@ -129,7 +130,7 @@ entry-spelled n version before rs ps i small v here ends =
 
 -- ---- the table
 
-module _ (n version : ℕ) (rs ps : List ℕ) (small : n ≤ 32) (v : version ≡ 4 → ⊥) (ends : PathsEnd rs ps) where
+module _ (n version : ℕ) (rs : List ℕ) (ps : Paths) (small : n ≤ 32) (v : version ≡ 4 → ⊥) (ends : PathsEnd rs ps) where
   pub entries-spelled : (k i : ℕ) (before : Before) → i + k ≤ recordsIn rs → Entries n version before (countOf rs k i) (entriesBytes n rs ps k i) (map (meaningOf n rs ps) (keptFrom rs k i))
   unfolding countOf keptOf entriesBytes recordBytes keptFrom
   entries-spelled zero i before h = done

@@ -10,7 +10,9 @@ use lib.ListN.{replicate}
 use Rattle.slices.specs.Bytes.{nulIn, nulAt}
 use Rattle.wire.specs.BigEndian.{beAt, bytesOf}
 use Rattle.wire.specs.Written.{digitsBy, digitsOf}
-use Rattle.sha1.specs.Sha1.{sha1}
+use Rattle.kind.specs.Sha1.{sha1Kind}
+use Rattle.format.specs.Format.{depthLimit, idSize}
+use Rattle.entry.specs.Paths.{Paths, lyingIn}
 use Rattle.entry.specs.Record.{fieldAt, liesInside, pathAt}
 use Rattle.node.specs.Store.{wordAt, idAt, isPart, partOf, nameInside, nameAt}
 use Rattle.siblings.specs.Siblings.{anyIn, twin, repeats, siblingsDiffer}
@@ -36,8 +38,8 @@ records =
     (replicate 24 0 ++ (0 ∷ 0 ∷ 129 ∷ 164 ∷ []) ++ replicate 12 0 ++ replicate 20 7 ++ replicate 31 0 ++ (1 ∷ 0 ∷ 0 ∷ 0 ∷ 0 ∷ []))
     ++ (replicate 72 0 ++ (0 ∷ 2 ∷ 0 ∷ 0 ∷ []) ++ replicate 20 0)
 
-abbrev paths : List ℕ
-paths = 97 ∷ []
+abbrev paths : Paths
+paths = lyingIn (97 ∷ [])
 
 -- a root that covers one entry
 abbrev nodes : List ℕ
@@ -50,9 +52,9 @@ options = record { tree = true; cache = true; eoie = false; sparse = true; unhas
 
 unfoldable writing : Outcome
 unfolding nulIn nulAt beAt bytesOf digitsBy digitsOf fieldAt liesInside pathAt wordAt idAt isPart partOf nameInside nameAt anyIn twin repeats siblingsDiffer countBytes frontBytes numberBytes idBytes headBytes better bestRun nextKid kids each nodeBytes parentFits countFits holdsNone nameFits climbs nodeFits childCount kidsFit allIn isProper faultOf stated fixedOf frontAt flagBytes entryOf recordBytes entriesBytes keptOf countOf anyExtended firstFault headerOf extensionHead contents eoiePart trailerOf frontOf extensionsOf bodyOf closedOf fileOf writesTree hasEoie treeFits bodyBytes fileBytes writeFile writeAll
-writing = writeAll 20 sha1 64 records paths nodes [] options (replicate 140 9)
+writing = writeAll sha1Kind depthLimit records paths nodes [] options (replicate 140 9)
 
-pub is-written : writeAll 20 sha1 64 records paths nodes [] options (replicate 140 9) .answer ≡ Done 2 137
+pub is-written : writeAll sha1Kind depthLimit records paths nodes [] options (replicate 140 9) .answer ≡ Done 2 137
 unfolding writing
 is-written = refl
 
@@ -64,22 +66,22 @@ writable zero h stays = record { path = λ q. byte (lit< tt) empty; mode = refl;
 writable (suc zero) h stays = let z : _≡_ {A = ℕ} 0 1 = cc in absurd (omega arith)
 writable (suc (suc i)) h stays = absurd (omega arith)
 
-roomy : Roomy records paths nodes options (replicate 96 9) (9 ∷ []) (replicate 72 9)
+roomy : Roomy sha1Kind records paths nodes options (replicate 96 9) (9 ∷ []) (replicate 72 9)
 unfolding beAt fieldAt liesInside pathAt keptFrom pathsBytes
 roomy = record { records = lit≤ tt; paths = lit≤ tt; nodes = λ e. lit≤ tt }
 
 -- the file, and what the reader makes of it with stores that are just large enough
 abbrev file : List ℕ
-file = bytes records paths nodes [] options (replicate 140 9) 2 137 is-written (lit< tt) (writable-ends records paths writable) (replicate 96 9) (9 ∷ []) (replicate 72 9)
+file = bytes sha1Kind records paths nodes [] options (replicate 140 9) 2 137 is-written (lit< tt) (writable-ends records paths writable) (replicate 96 9) (9 ∷ []) (replicate 72 9)
 
 abbrev outcome : ReadOutcome
-outcome = reading records paths nodes [] options (replicate 140 9) 2 137 is-written (lit< tt) (writable-ends records paths writable) (replicate 96 9) (9 ∷ []) (replicate 72 9)
+outcome = reading sha1Kind records paths nodes [] options (replicate 140 9) 2 137 is-written (lit< tt) (writable-ends records paths writable) (replicate 96 9) (9 ∷ []) (replicate 72 9)
 
 slices : Slices file (9 ∷ []) (replicate 72 9)
 unfolding writing allBytes
 slices = record { bytes = bytes-if file refl; file = lit< tt; paths = lit< tt; nodes = lit< tt }
 
 -- so the claims speak of it: record 0 reads back
-pub reads-back : SameEntry records paths 0 (outcome .records) (outcome .paths) 0
+pub reads-back : SameEntry idSize records paths 0 (outcome .records) (lyingIn (outcome .paths)) 0
 unfolding beAt fieldAt keptFrom
-reads-back = written-reads-back records paths nodes [] options (replicate 140 9) 2 137 is-written (lit< tt) (writable-ends records paths writable) (replicate 96 9) (9 ∷ []) (replicate 72 9) slices roomy writable 0 0 refl
+reads-back = written-reads-back sha1Kind records paths nodes [] options (replicate 140 9) 2 137 is-written (lit< tt) (writable-ends records paths writable) (replicate 96 9) (9 ∷ []) (replicate 72 9) slices roomy writable 0 0 refl

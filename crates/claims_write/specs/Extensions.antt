@@ -9,6 +9,7 @@ use lib.ListN.{length, getD, length-append}
 use Rattle.laws.specs.Pick.{pick}
 use Rattle.laws.specs.Fill.{Fill, done, more}
 use Rattle.wire.specs.BigEndian.{bytesOf, length-bytes}
+use Rattle.kind.specs.Kind.{Kind}
 use Rattle.grammar.specs.Extension.{Ext, ext, Framed, framed, Mandatory, sdir, TREE, Allowed, optional, empty-sdir, Extension, Extensions, NoneSigned, none-left, another, LastSigned, last-signed}
 use Rattle.grammar.specs.File.{Some, this, other, Tells, it-is, it-is-not}
 use Rattle.claims_extension.specs.Said.{HasSdir}
@@ -74,28 +75,28 @@ meanings-for true tree false = refl
 meanings-for false tree true = refl
 meanings-for false tree false = refl
 
-eoie-part : (id : ℕ) (hash : List ℕ → List ℕ) (has : Bool) (offset : ℕ) (toc : List ℕ) → id < 2 ^ 31 → length (hash toc) ≡ id
-    → Fill Extension (eoiePart id hash has offset toc) (pick has (ext EOIE (bytesOf 4 offset ++ hash toc) ∷ []) [])
+eoie-part : (kind : Kind) (has : Bool) (offset : ℕ) (toc : List ℕ)
+    → Fill Extension (eoiePart kind has offset toc) (pick has (ext EOIE (bytesOf 4 offset ++ kind .hash toc) ∷ []) [])
 unfolding eoiePart
-eoie-part id hash false offset toc h l = done
-eoie-part id hash true offset toc h l =
-    let body : List ℕ = bytesOf 4 offset ++ hash toc in
-    let k : length body ≡ 4 + id = length-append (bytesOf 4 offset) (hash toc) ∙ omega (arith, length-bytes 4 offset) in
-    let f : Framed (extensionHead EOIE (length body) ++ body) (ext EOIE body) = framed-here EOIE body refl (omega arith) in
-    let e : extensionHead EOIE (length body) ++ body ≡ (extensionHead EOIE (4 + id) ++ bytesOf 4 offset) ++ hash toc =
-    ap (λ (j : ℕ). extensionHead EOIE j ++ body) k ∙ sym (append-assoc (extensionHead EOIE (4 + id)) (bytesOf 4 offset) (hash toc)) in
+eoie-part kind false offset toc = done
+eoie-part kind true offset toc =
+    let body : List ℕ = bytesOf 4 offset ++ kind .hash toc in
+    let k : length body ≡ 4 + kind .id = length-append (bytesOf 4 offset) (kind .hash toc) ∙ omega (arith, length-bytes 4 offset, kind .answers toc) in
+    let f : Framed (extensionHead EOIE (length body) ++ body) (ext EOIE body) = framed-here EOIE body refl (omega (arith, kind .fits)) in
+    let e : extensionHead EOIE (length body) ++ body ≡ (extensionHead EOIE (4 + kind .id) ++ bytesOf 4 offset) ++ kind .hash toc =
+    ap (λ (j : ℕ). extensionHead EOIE j ++ body) k ∙ sym (append-assoc (extensionHead EOIE (4 + kind .id)) (bytesOf 4 offset) (kind .hash toc)) in
     one (record { is-framed = subst (λ (b : List ℕ). Framed b (ext EOIE body)) e f; is-allowed = optional (not-mandatory EOIE (lit< tt)) })
 
 -- ---- all of them
 
-pub extensions-spelled : (id : ℕ) (hash : List ℕ → List ℕ) (writes : Bool) (tree : List ℕ) (sparse has : Bool) (offset : ℕ) (toc : List ℕ) → (writes ≡ true → length tree < 2 ^ 32) → id < 2 ^ 31 → length (hash toc) ≡ id
-    → Extensions (extensionsOf (extensionsFor writes tree sparse) ++ eoiePart id hash has offset toc) (extensionsMeant writes tree sparse has (bytesOf 4 offset ++ hash toc))
-extensions-spelled id hash writes tree sparse has offset toc h k l =
+pub extensions-spelled : (kind : Kind) (writes : Bool) (tree : List ℕ) (sparse has : Bool) (offset : ℕ) (toc : List ℕ) → (writes ≡ true → length tree < 2 ^ 32)
+    → Extensions (extensionsOf (extensionsFor writes tree sparse) ++ eoiePart kind has offset toc) (extensionsMeant writes tree sparse has (bytesOf 4 offset ++ kind .hash toc))
+extensions-spelled kind writes tree sparse has offset toc h =
     let first : Fill Extension (extensionsOf (extensionsFor writes tree sparse)) (pick writes (ext TREE tree ∷ []) [] ++ pick sparse (ext sdir [] ∷ []) [])
     = subst (Fill Extension (extensionsOf (extensionsFor writes tree sparse))) (meanings-for writes tree sparse) (list-spelled (sound-for writes tree sparse h)) in
-    subst (Extensions (extensionsOf (extensionsFor writes tree sparse) ++ eoiePart id hash has offset toc))
-    (append-assoc (pick writes (ext TREE tree ∷ []) []) (pick sparse (ext sdir [] ∷ []) []) (pick has (ext EOIE (bytesOf 4 offset ++ hash toc) ∷ []) []))
-    (fill-append first (eoie-part id hash has offset toc k l))
+    subst (Extensions (extensionsOf (extensionsFor writes tree sparse) ++ eoiePart kind has offset toc))
+    (append-assoc (pick writes (ext TREE tree ∷ []) []) (pick sparse (ext sdir [] ∷ []) []) (pick has (ext EOIE (bytesOf 4 offset ++ kind .hash toc) ∷ []) []))
+    (fill-append first (eoie-part kind has offset toc))
 
 -- ---- the mark
 

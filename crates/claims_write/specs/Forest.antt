@@ -14,8 +14,9 @@ use Rattle.laws.specs.Pick.{pick}
 use Rattle.laws.specs.Lists.{length-part, take-replicate}
 use Rattle.laws.specs.Order.{Before}
 use Rattle.laws.specs.Tests.{lt-or-ge, Same, same, differs, same?}
+use Rattle.format.specs.Format.{idRoom}
 use Rattle.node.specs.Head.{minusOne}
-use Rattle.node.specs.Store.{idRoom, nodesIn, countAt, subtreesAt, parentAt, idAt, nameAt}
+use Rattle.node.specs.Store.{nodesIn, countAt, subtreesAt, parentAt, idAt, nameAt}
 use Rattle.tree_write.specs.Order.{before, before-names}
 use Rattle.tree_write.specs.Tree.{idBytes, headBytes, each, nodeBytes}
 use Rattle.tree_write.specs.Kids.{Mem, here, there, Rising, done, more}

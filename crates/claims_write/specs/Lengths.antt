@@ -5,16 +5,17 @@ use mathlib.Core.Path.{_≡_, refl, sym, ap, _∙_}
 use mathlib.Core.Bool.{Bool, true, false, _&&_, _||_}
 use mathlib.Core.List.{List, [], _∷_, _++_}
 use native.Mathlib.Omega.{arith}
-use lib.Dec.{ltb, eqb, lit≤}
+use lib.Dec.{ltb, eqb}
 use lib.ListN.{length, take, drop, length-append}
 use borrow.Author.Tests.{lt-ltb, ne-eqb}
 use Rattle.laws.specs.Pick.{pick}
 use Rattle.laws.specs.Lists.{length-part}
 use Rattle.laws.specs.Tests.{Same, same, differs, same?}
-use Rattle.format.specs.Format.{idSize, depthLimit}
+use Rattle.format.specs.Format.{depthLimit, idRoom}
 use Rattle.wire.specs.Written.{digitsBy, digitsOf}
-use Rattle.sha1.specs.Sha1.{sha1}
+use Rattle.kind.specs.Kind.{Kind}
 use Rattle.entry.specs.Flags.{bit, extended, removed}
+use Rattle.entry.specs.Paths.{Paths}
 use Rattle.entry.specs.Record.{recordsIn, flagsAt, pathAt}
 use Rattle.node.specs.Head.{minusOne}
 use Rattle.node.specs.Store.{nodesIn, countAt, subtreesAt, idAt, nameAt}
@@ -41,7 +42,7 @@ fixed-is id flags = by (bit extended flags)
     by true = omega arith
     by false = omega arith
 
-module _ (id : ℕ) (rs ps : List ℕ) (small : id ≤ 32) where
+module _ (id : ℕ) (rs : List ℕ) (ps : Paths) (small : id ≤ 32) where
   record-length : (i : ℕ) → i < recordsIn rs → length (recordBytes id rs ps (beforeAt rs ps i) i) ≡ writtenSize id rs ps i
   unfolding recordBytes
   record-length i h = by (bit removed (flagsAt rs i))
@@ -56,11 +57,11 @@ module _ (id : ℕ) (rs ps : List ℕ) (small : id ≤ 32) where
   entries-length (suc k) i h =
       omega (arith, length-append (recordBytes id rs ps (beforeAt rs ps i) i) (entriesBytes id rs ps k (i + 1)), record-length i (omega arith), entries-length k (i + 1) (omega arith))
 
-pub table-length : (id : ℕ) (rs ps : List ℕ) → id ≤ 32 → length (tableBytes id rs ps) ≡ entriesSize id rs ps
+pub table-length : (id : ℕ) (rs : List ℕ) (ps : Paths) → id ≤ 32 → length (tableBytes id rs ps) ≡ entriesSize id rs ps
 table-length id rs ps small = entries-length id rs ps small (recordsIn rs) 0 (omega arith)
 
-pub offset-is : (rs ps : List ℕ) → offsetOf idSize rs ps ≡ extensionsPlace idSize rs ps
-offset-is rs ps = omega (arith, table-length idSize rs ps (lit≤ tt))
+pub offset-is : (id : ℕ) → id ≤ idRoom → (rs : List ℕ) (ps : Paths) → offsetOf id rs ps ≡ extensionsPlace id rs ps
+offset-is id small rs ps = omega (arith, table-length id rs ps small)
 
 -- ---- a node's head
 
@@ -221,46 +222,47 @@ has-eoie-is rs o = ap (λ (w : Bool). pick (o .eoie) (pick (ltb 0 (recordsIn rs)
     by true true true = refl
     by true true false = refl
 
-no-eoie : (offset : ℕ) (toc : List ℕ) → length (eoiePart idSize sha1 false offset toc) ≡ 0
-unfolding eoiePart
-no-eoie offset toc = refl
+module _ (kind : Kind) where
+  no-eoie : (offset : ℕ) (toc : List ℕ) → length (eoiePart kind false offset toc) ≡ 0
+  unfolding eoiePart
+  no-eoie offset toc = refl
 
-module _ (rs ps ns nm : List ℕ) (o : Options) (proper : treeAsked o ≡ true → Proper depthLimit ns nm) where
-  extensions-part : length (extensionsOf (extensionsAsked idSize depthLimit ns nm o)) ≡ extensionSize (treeAsked o) (treeSize idSize ns nm) + extensionSize (o .sparse) 0
-  unfolding headSize
-  extensions-part = length-extensions (signed-for (writesTree o) (treeBytes idSize depthLimit ns nm) (o .sparse)) ∙ size-for (writesTree o) (treeBytes idSize depthLimit ns nm) (o .sparse) ∙ rw (writes-tree-is o) (by (treeAsked o) (o .sparse) proper)
-    where
-      by : (t s : Bool) → (t ≡ true → Proper depthLimit ns nm)
-          → pick t 8 0 + length (pick t (treeBytes idSize depthLimit ns nm) []) + pick s 8 0 ≡ extensionSize t (treeSize idSize ns nm) + extensionSize s 0
-      by true s p = omega (arith, tree-length idSize depthLimit ns nm (lit≤ tt) (p refl))
-      by false s p = refl
+  module _ (rs : List ℕ) (ps : Paths) (ns nm : List ℕ) (o : Options) (proper : treeAsked o ≡ true → Proper depthLimit ns nm) where
+    extensions-part : length (extensionsOf (extensionsAsked (kind .id) depthLimit ns nm o)) ≡ extensionSize (treeAsked o) (treeSize (kind .id) ns nm) + extensionSize (o .sparse) 0
+    unfolding headSize
+    extensions-part = length-extensions (signed-for (writesTree o) (treeBytes (kind .id) depthLimit ns nm) (o .sparse)) ∙ size-for (writesTree o) (treeBytes (kind .id) depthLimit ns nm) (o .sparse) ∙ rw (writes-tree-is o) (by (treeAsked o) (o .sparse) proper)
+      where
+        by : (t s : Bool) → (t ≡ true → Proper depthLimit ns nm)
+            → pick t 8 0 + length (pick t (treeBytes (kind .id) depthLimit ns nm) []) + pick s 8 0 ≡ extensionSize t (treeSize (kind .id) ns nm) + extensionSize s 0
+        by true s p = omega (arith, tree-length (kind .id) depthLimit ns nm (kind .fits) (p refl))
+        by false s p = refl
 
-  pub body-length : length (bodyBytes idSize depthLimit rs ps ns nm o) ≡ sizeBeforeEoie idSize rs ps ns nm o
-  unfolding bodyBytes bodyOf frontOf
-  body-length =
-      let h : List ℕ = headerOf (versionOf rs) (countOf rs (recordsIn rs) 0) in
-      let x : List ℕ = extensionsOf (extensionsAsked idSize depthLimit ns nm o) in
-      omega (
-        arith,
-        length-append (h ++ tableBytes idSize rs ps) x,
-        length-append h (tableBytes idSize rs ps),
-        length-header (versionOf rs) (countOf rs (recordsIn rs) 0),
-        table-length idSize rs ps (lit≤ tt),
-        extensions-part,
-      )
+    pub body-length : length (bodyBytes (kind .id) depthLimit rs ps ns nm o) ≡ sizeBeforeEoie (kind .id) rs ps ns nm o
+    unfolding bodyBytes bodyOf frontOf
+    body-length =
+        let h : List ℕ = headerOf (versionOf rs) (countOf rs (recordsIn rs) 0) in
+        let x : List ℕ = extensionsOf (extensionsAsked (kind .id) depthLimit ns nm o) in
+        omega (
+          arith,
+          length-append (h ++ tableBytes (kind .id) rs ps) x,
+          length-append h (tableBytes (kind .id) rs ps),
+          length-header (versionOf rs) (countOf rs (recordsIn rs) 0),
+          table-length (kind .id) rs ps (kind .fits),
+          extensions-part,
+        )
 
-  eoie-part : (offset : ℕ) (toc : List ℕ) → length (eoiePart idSize sha1 (hasEoie (recordsIn rs) o) offset toc) ≡ extensionSize (eoieAsked rs o) (4 + idSize)
-  eoie-part offset toc = rw (has-eoie-is rs o) (by (eoieAsked rs o))
-    where
-      by : (t : Bool) → length (eoiePart idSize sha1 t offset toc) ≡ extensionSize t (4 + idSize)
-      by true = length-eoie true offset toc refl
-      by false = no-eoie offset toc
+    eoie-part : (offset : ℕ) (toc : List ℕ) → length (eoiePart kind (hasEoie (recordsIn rs) o) offset toc) ≡ extensionSize (eoieAsked rs o) (4 + kind .id)
+    eoie-part offset toc = rw (has-eoie-is rs o) (by (eoieAsked rs o))
+      where
+        by : (t : Bool) → length (eoiePart kind t offset toc) ≡ extensionSize t (4 + kind .id)
+        by true = omega (arith, length-eoie kind true offset toc refl)
+        by false = no-eoie offset toc
 
-  pub file-length : length (fileBytes idSize sha1 depthLimit rs ps ns nm o) ≡ fileSize idSize rs ps ns nm o
-  file-length =
-      let body : List ℕ = bodyBytes idSize depthLimit rs ps ns nm o in
-      let toc : List ℕ = contents (extensionsAsked idSize depthLimit ns nm o) in
-      let eoie : List ℕ = eoiePart idSize sha1 (hasEoie (recordsIn rs) o) (offsetOf idSize rs ps) toc in
-      let last : List ℕ = trailerOf idSize sha1 (o .unhashed) (body ++ eoie) in
-      ap length (file-parts idSize sha1 depthLimit rs ps ns nm o)
-      ∙ omega (arith, length-append (body ++ eoie) last, length-append body eoie, body-length, eoie-part (offsetOf idSize rs ps) toc, length-trailer (o .unhashed) (body ++ eoie))
+    pub file-length : length (fileBytes kind depthLimit rs ps ns nm o) ≡ fileSize (kind .id) rs ps ns nm o
+    file-length =
+        let body : List ℕ = bodyBytes (kind .id) depthLimit rs ps ns nm o in
+        let toc : List ℕ = contents (extensionsAsked (kind .id) depthLimit ns nm o) in
+        let eoie : List ℕ = eoiePart kind (hasEoie (recordsIn rs) o) (offsetOf (kind .id) rs ps) toc in
+        let last : List ℕ = trailerOf kind (o .unhashed) (body ++ eoie) in
+        ap length (file-parts kind depthLimit rs ps ns nm o)
+        ∙ omega (arith, length-append (body ++ eoie) last, length-append body eoie, body-length, eoie-part (offsetOf (kind .id) rs ps) toc, length-trailer kind (o .unhashed) (body ++ eoie))

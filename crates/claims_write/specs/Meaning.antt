@@ -6,8 +6,8 @@ use mathlib.Core.Bool.{true, false}
 use mathlib.Core.List.{List, [], _∷_, map}
 use lib.ListN.{length}
 use Rattle.laws.specs.Pick.{pick}
-use Rattle.format.specs.Format.{idSize}
 use Rattle.entry.specs.Flags.{bit, extended, toStorage, keepFlags}
+use Rattle.entry.specs.Paths.{Paths}
 use Rattle.entry.specs.Record.{recordsIn, fieldAt, modeAt, flagsAt, stageAt, idAt, liesInside, pathAt}
 use Rattle.entry.specs.Stat.{statAt}
 use Rattle.grammar.specs.Entry.{Stat, Meaning, meaning, keptMode, NoNul, fullField}
@@ -36,7 +36,7 @@ abbrev pub writtenFlags : ℕ → ℕ
 writtenFlags flags = pick (bit extended flags) (keepFlags flags) (toStorage flags)
 
 -- what is kept of record i, over the length of an id
-abbrev pub meaningOf : ℕ → List ℕ → List ℕ → ℕ → Meaning
+abbrev pub meaningOf : ℕ → List ℕ → Paths → ℕ → Meaning
 meaningOf n rs ps i = meaning (statOf rs i) (idAt n rs i) (writtenFlags (flagsAt rs i)) (pathAt rs ps i)
 
 -- ---- the table
@@ -50,7 +50,7 @@ abbrev pub keptOf : List ℕ → List ℕ
 keptOf rs = keptFrom rs (recordsIn rs) 0
 
 -- the table without the records marked REMOVE
-abbrev pub meaningsOf : ℕ → List ℕ → List ℕ → List Meaning
+abbrev pub meaningsOf : ℕ → List ℕ → Paths → List Meaning
 meaningsOf n rs ps = map (meaningOf n rs ps) (keptOf rs)
 
 -- ---- PREMISES
@@ -60,7 +60,7 @@ abbrev pub PathEnds : List ℕ → Type 0
 PathEnds p = fullField ≤ length p → NoNul p
 
 -- so for each record that is written
-abbrev pub PathsEnd : List ℕ → List ℕ → Type 0
+abbrev pub PathsEnd : List ℕ → Paths → Type 0
 PathsEnd rs ps = (i : ℕ) → i < recordsIn rs → isGone rs i ≡ false → PathEnds (pathAt rs ps i)
 
 -- the bits 29 and 30 stand only beside EXTENDED
@@ -68,13 +68,13 @@ abbrev pub MarksFit : ℕ → Type 0
 MarksFit flags = flags / 2 ^ extended % 2 ≡ 0 → flags / 2 ^ 29 % 4 ≡ 0
 
 -- a record that loses nothing by being written: no NUL in a path whose length cannot be stated, a mode of known bits, and extended bits only beside EXTENDED
-pub record Writable (rs ps : List ℕ) (i : ℕ) : Type 0 where
+pub record Writable (rs : List ℕ) (ps : Paths) (i : ℕ) : Type 0 where
   pub path : PathEnds (pathAt rs ps i)
   pub mode : keptMode (modeAt rs i) ≡ modeAt rs i
   pub marks : MarksFit (flagsAt rs i)
 
 -- each record that is written is such a one
-abbrev pub WritableTable : List ℕ → List ℕ → Type 0
+abbrev pub WritableTable : List ℕ → Paths → Type 0
 WritableTable rs ps = (i : ℕ) → i < recordsIn rs → isGone rs i ≡ false → Writable rs ps i
 
 -- no record is marked REMOVE
@@ -83,12 +83,12 @@ NoneRemoved rs = (i : ℕ) → i < recordsIn rs → isGone rs i ≡ false
 
 -- ---- WHAT READS BACK
 
--- record j of one table shows what record i of the other does: every field, the kept bits of the flags, and the path, which lies in its store
-pub record SameEntry (rs ps : List ℕ) (i : ℕ) (rs′ ps′ : List ℕ) (j : ℕ) : Type 0 where
+-- record j of one table shows what record i of the other does, over the length of an id: every field, the kept bits of the flags, and the path, which lies in its store
+pub record SameEntry (n : ℕ) (rs : List ℕ) (ps : Paths) (i : ℕ) (rs′ : List ℕ) (ps′ : Paths) (j : ℕ) : Type 0 where
   pub there : j < recordsIn rs′
   pub stat : statAt rs′ j ≡ statAt rs i
   pub mode : modeAt rs′ j ≡ modeAt rs i
-  pub id : idAt idSize rs′ j ≡ idAt idSize rs i
+  pub id : idAt n rs′ j ≡ idAt n rs i
   pub flags : flagsAt rs′ j ≡ keepFlags (flagsAt rs i)
   pub stage : stageAt rs′ j ≡ stageAt rs i
   pub inside : liesInside rs′ ps′ j ≡ true

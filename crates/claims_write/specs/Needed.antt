@@ -9,15 +9,16 @@ use lib.ListN.{length, getD, take, replicate}
 use Rattle.slices.specs.Bytes.{sameBytes, nulIn, nulAt}
 use Rattle.wire.specs.BigEndian.{beAt, bytesOf}
 use Rattle.format.specs.Format.{idSize, depthLimit}
-use Rattle.sha1.specs.Sha1.{sha1}
+use Rattle.kind.specs.Sha1.{sha1Kind}
 use Rattle.entry.specs.Flags.{extendedToMemory}
 use Rattle.entry.specs.Mode.{keepMode, dirAt}
+use Rattle.entry.specs.Paths.{Paths, lyingIn}
 use Rattle.entry.specs.Record.{recordsIn, modeAt, flagsAt, fieldAt, liesInside, pathAt, frontOf, restOf, recordOf, putRecord}
 use Rattle.measure.specs.Entry as measure
 use Rattle.decode.specs.Header.{onVersion, headerAt}
 use Rattle.decode.specs.Entries.{pathOf, marked, run, least, readEntries}
 use Rattle.extension.specs.Iter.{stepAt, runBy, runAt, lastWhere}
-use Rattle.extension.specs.Decode.{sparseIn, judged, walkAt}
+use Rattle.extension.specs.Decode.{sparseIn, judged, allAt}
 use Rattle.grammar.specs.Entry.{keptMode}
 use Rattle.file.specs.Trailer.{goodTrailer}
 use Rattle.file.specs.Read.{Outcome as ReadOutcome, extensionsInto, entriesInto, readFile}
@@ -36,16 +37,16 @@ abbrev pub plain : Options
 plain = record { tree = false; cache = false; eoie = false; sparse = false; unhashed = true }
 
 -- a table over its paths, written into so many bytes
-unfoldable pub writing : List ℕ → List ℕ → ℕ → Outcome
+unfoldable pub writing : List ℕ → Paths → ℕ → Outcome
 unfolding beAt bytesOf fieldAt liesInside pathAt faultOf stated fixedOf frontAt flagBytes entryOf recordBytes entriesBytes keptOf countOf anyExtended firstFault headerOf extensionHead contents eoiePart trailerOf write.frontOf extensionsOf bodyOf closedOf fileOf writesTree hasEoie treeFits bodyBytes fileBytes writeFile writeAll
-writing rs ps size = writeAll idSize sha1 depthLimit rs ps [] [] plain (replicate size 9)
+writing rs ps size = writeAll sha1Kind depthLimit rs ps [] [] plain (replicate size 9)
 
 -- and what the reader makes of them, with stores that are large enough
-unfoldable pub reading : List ℕ → List ℕ → ℕ → ReadOutcome
-unfolding writing readFile headerAt onVersion goodTrailer sameBytes entriesInto readEntries run least pathOf marked putRecord recordOf frontOf restOf keepMode dirAt measure.measureAt measure.headAt measure.headWith measure.extendedAt extendedToMemory measure.paddedAt measure.paddedTo measure.wholeOf nulAt nulIn extensionsInto walkAt runAt runBy stepAt judged sparseIn lastWhere
+unfoldable pub reading : List ℕ → Paths → ℕ → ReadOutcome
+unfolding writing readFile headerAt onVersion goodTrailer sameBytes entriesInto readEntries run least pathOf marked putRecord recordOf frontOf restOf keepMode dirAt measure.measureAt measure.headAt measure.headWith measure.extendedAt extendedToMemory measure.paddedAt measure.paddedTo measure.wholeOf nulAt nulIn extensionsInto allAt runAt runBy stepAt judged sparseIn lastWhere
 reading rs ps size =
-    readFile idSize depthLimit (take size (writeAll idSize sha1 depthLimit rs ps [] [] plain (replicate size 9) .out))
-    (replicate (length rs) 9) (replicate (length ps) 9) []
+    readFile sha1Kind depthLimit (take size (writeAll sha1Kind depthLimit rs ps [] [] plain (replicate size 9) .out))
+    (replicate (length rs) 9) (replicate (length (ps .store)) 9) []
 
 -- ---- THE CLAIM'S WORDS
 
@@ -57,10 +58,10 @@ abbrev pub AllMarksFit : List ℕ → Type 0
 AllMarksFit rs = (i : ℕ) → i < recordsIn rs → isGone rs i ≡ false → MarksFit (flagsAt rs i)
 
 -- a table that is written, in so many bytes, and read again, as so many records and path bytes, but whose record 0 is not what is read as record 0
-pub record ReadsBackOtherwise (rs ps : List ℕ) (size records used : ℕ) : Type 0 where
+pub record ReadsBackOtherwise (rs : List ℕ) (ps : Paths) (size records used : ℕ) : Type 0 where
   pub is-written : writing rs ps size .answer ≡ Done 2 size
   pub is-read : reading rs ps size .answer ≡ Read 2 false false records used 0
-  pub is-other : SameEntry rs ps 0 (reading rs ps size .records) (reading rs ps size .paths) 0 → ⊥
+  pub is-other : SameEntry idSize rs ps 0 (reading rs ps size .records) (lyingIn (reading rs ps size .paths)) 0 → ⊥
 
 -- ---- the tables
 
@@ -86,8 +87,8 @@ only P p (suc i) h = absurd (omega arith)
 abbrev pub nul-row : List ℕ
 nul-row = row regular no-flag (0 ∷ 0 ∷ []) (15 ∷ 255 ∷ [])
 
-abbrev pub nul-path : List ℕ
-nul-path = replicate 4094 97 ++ (0 ∷ [])
+abbrev pub nul-path : Paths
+nul-path = lyingIn (replicate 4094 97 ++ (0 ∷ []))
 
 pub paths-without-nul-needed : ModesFit nul-row × AllMarksFit nul-row × NoneRemoved nul-row × ReadsBackOtherwise nul-row nul-path 4192 1 4094
 unfolding writing reading
@@ -103,7 +104,7 @@ paths-without-nul-needed = (
 abbrev pub unmarked-row : List ℕ
 unmarked-row = row regular (32 ∷ 0 ∷ 0 ∷ 0 ∷ []) (0 ∷ 0 ∷ []) (0 ∷ 1 ∷ [])
 
-pub extended-needed : PathsEnd unmarked-row (97 ∷ []) × ModesFit unmarked-row × NoneRemoved unmarked-row × ReadsBackOtherwise unmarked-row (97 ∷ []) 96 1 1
+pub extended-needed : PathsEnd unmarked-row (lyingIn (97 ∷ [])) × ModesFit unmarked-row × NoneRemoved unmarked-row × ReadsBackOtherwise unmarked-row (lyingIn (97 ∷ [])) 96 1 1
 unfolding writing reading
 extended-needed = (
   only _ (λ s q. absurd (omega arith)),
@@ -117,7 +118,7 @@ extended-needed = (
 abbrev pub mode-row : List ℕ
 mode-row = row (0 ∷ 0 ∷ 129 ∷ 166 ∷ []) no-flag (0 ∷ 0 ∷ []) (0 ∷ 1 ∷ [])
 
-pub known-mode-bits-needed : PathsEnd mode-row (97 ∷ []) × AllMarksFit mode-row × NoneRemoved mode-row × ReadsBackOtherwise mode-row (97 ∷ []) 96 1 1
+pub known-mode-bits-needed : PathsEnd mode-row (lyingIn (97 ∷ [])) × AllMarksFit mode-row × NoneRemoved mode-row × ReadsBackOtherwise mode-row (lyingIn (97 ∷ [])) 96 1 1
 unfolding writing reading
 known-mode-bits-needed = (
   only _ (λ s q. absurd (omega arith)),
@@ -131,14 +132,14 @@ known-mode-bits-needed = (
 abbrev pub removed-rows : List ℕ
 removed-rows = row regular (0 ∷ 2 ∷ 0 ∷ 0 ∷ []) (0 ∷ 0 ∷ []) (0 ∷ 1 ∷ []) ++ row regular no-flag (0 ∷ 1 ∷ []) (0 ∷ 2 ∷ [])
 
-pub none-removed-needed : WritableTable removed-rows (97 ∷ 98 ∷ []) × ReadsBackOtherwise removed-rows (97 ∷ 98 ∷ []) 96 1 1
+pub none-removed-needed : WritableTable removed-rows (lyingIn (97 ∷ 98 ∷ [])) × ReadsBackOtherwise removed-rows (lyingIn (97 ∷ 98 ∷ [])) 96 1 1
 unfolding writing reading
 none-removed-needed = (
   fit,
   record { is-written = refl; is-read = refl; is-other = λ x. let e : _≡_ {A = ℕ} 98 97 = ap (λ (l : List ℕ). getD l 0 0) (x .path) in omega arith },
 )
   where
-    fit : WritableTable removed-rows (97 ∷ 98 ∷ [])
+    fit : WritableTable removed-rows (lyingIn (97 ∷ 98 ∷ []))
     fit zero h s = record { path = λ q. absurd (omega arith); mode = refl; marks = λ e. refl }
     fit (suc zero) h s = record { path = λ q. absurd (omega arith); mode = refl; marks = λ e. refl }
     fit (suc (suc i)) h s = absurd (omega arith)

@@ -10,6 +10,7 @@ use lib.ListN.{length}
 use Rattle.laws.specs.Pick.{pick}
 use Rattle.format.specs.Format.{headerSize}
 use Rattle.entry.specs.Flags.{bit, extended, removed}
+use Rattle.entry.specs.Paths.{Paths}
 use Rattle.entry.specs.Record.{recordsIn, flagsAt, pathAt}
 use Rattle.node.specs.Head.{minusOne}
 use Rattle.node.specs.Store.{nodesIn, countAt, subtreesAt, nameAt}
@@ -34,7 +35,7 @@ abbrev pub fixedSize : ℕ → ℕ → ℕ
 fixedSize id flags = 10 * 4 + id + 2 + pick (bit extended flags) 2 0
 
 -- with the path
-abbrev pub unpaddedSize : ℕ → List ℕ → List ℕ → ℕ → ℕ
+abbrev pub unpaddedSize : ℕ → List ℕ → Paths → ℕ → ℕ
 unpaddedSize id rs ps i = fixedSize id (flagsAt rs i) + length (pathAt rs ps i)
 
 -- with "1 to 8 padding bytes …, so that the entry is a multiple of 8 long"
@@ -44,21 +45,21 @@ padded size = (size / 8 + 1) * 8
 pub padded-is : (size : ℕ) → (size + 1 ≤ padded size) × (padded size ≤ size + 8) × (padded size % 8 ≡ 0)
 padded-is size = (omega arith, omega arith, omega arith)
 
-abbrev pub entrySize : ℕ → List ℕ → List ℕ → ℕ → ℕ
+abbrev pub entrySize : ℕ → List ℕ → Paths → ℕ → ℕ
 entrySize id rs ps i = padded (unpaddedSize id rs ps i)
 
-abbrev pub paddingSize : ℕ → List ℕ → List ℕ → ℕ → ℕ
+abbrev pub paddingSize : ℕ → List ℕ → Paths → ℕ → ℕ
 paddingSize id rs ps i = entrySize id rs ps i - unpaddedSize id rs ps i
 
 -- "REMOVE records are skipped"
-abbrev pub writtenSize : ℕ → List ℕ → List ℕ → ℕ → ℕ
+abbrev pub writtenSize : ℕ → List ℕ → Paths → ℕ → ℕ
 writtenSize id rs ps i = pick (bit removed (flagsAt rs i)) 0 (entrySize id rs ps i)
 
-abbrev pub entriesSize : ℕ → List ℕ → List ℕ → ℕ
+abbrev pub entriesSize : ℕ → List ℕ → Paths → ℕ
 entriesSize id rs ps = total (writtenSize id rs ps) (recordsIn rs) 0
 
 -- where the extensions start
-abbrev pub extensionsPlace : ℕ → List ℕ → List ℕ → ℕ
+abbrev pub extensionsPlace : ℕ → List ℕ → Paths → ℕ
 extensionsPlace id rs ps = headerSize + entriesSize id rs ps
 
 -- ---- a node
@@ -90,9 +91,9 @@ abbrev pub extensionSize : Bool → ℕ → ℕ
 extensionSize there size = pick there (extensionHeader + size) 0
 
 -- the bytes before EOIE's place: header, entries, TREE and `sdir`
-abbrev pub sizeBeforeEoie : ℕ → List ℕ → List ℕ → List ℕ → List ℕ → Options → ℕ
+abbrev pub sizeBeforeEoie : ℕ → List ℕ → Paths → List ℕ → List ℕ → Options → ℕ
 sizeBeforeEoie id rs ps ns nm o = extensionsPlace id rs ps + extensionSize (treeAsked o) (treeSize id ns nm) + extensionSize (o .sparse) 0
 
 -- and behind them EOIE, an offset and a hash, and the trailer
-abbrev pub fileSize : ℕ → List ℕ → List ℕ → List ℕ → List ℕ → Options → ℕ
+abbrev pub fileSize : ℕ → List ℕ → Paths → List ℕ → List ℕ → Options → ℕ
 fileSize id rs ps ns nm o = sizeBeforeEoie id rs ps ns nm o + extensionSize (eoieAsked rs o) (4 + id) + id

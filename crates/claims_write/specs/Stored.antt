@@ -10,8 +10,9 @@ use lib.ListN.{length, take, drop}
 use lib.Seq.{take-at}
 use Rattle.laws.specs.Tests.{lt-or-ge}
 use Rattle.laws.specs.Order.{Before, transitive, before-below}
+use Rattle.format.specs.Format.{idRoom}
 use Rattle.node.specs.Head.{minusOne}
-use Rattle.node.specs.Store.{idRoom, nodesIn, parentAt, nameAt}
+use Rattle.node.specs.Store.{nodesIn, parentAt, nameAt}
 use Rattle.tree.specs.declared.TreeAnswer.the-variants.{Tree as IsTree}
 use Rattle.tree.specs.Tree.{readTree}
 use Rattle.tree_write.specs.Order.{before, byIndex, before-not, before-trans}

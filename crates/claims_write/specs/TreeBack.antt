@@ -14,11 +14,12 @@ use lib.Seq.{take-append-le, drop-append-le}
 use borrow.Author.Tests.{lt-ltb, eq-eqb}
 use Rattle.laws.specs.Pick.{pick}
 use Rattle.laws.specs.Tests.{tri, Same, same, differs, same?}
-use Rattle.format.specs.Format.{idSize, depthLimit}
+use Rattle.format.specs.Format.{depthLimit, idRoom}
 use Rattle.wire.specs.BigEndian.{be-left}
-use Rattle.sha1.specs.Sha1.{sha1}
+use Rattle.kind.specs.Kind.{Kind}
+use Rattle.entry.specs.Paths.{Paths}
 use Rattle.node.specs.Head.{minusOne}
-use Rattle.node.specs.Store.{idRoom, nodesIn, wordAt, parentAt, idAt, partOf, nameAt}
+use Rattle.node.specs.Store.{nodesIn, wordAt, parentAt, idAt, partOf, nameAt}
 use Rattle.tree_write.specs.Kids.{Mem, here, there}
 use Rattle.write.specs.declared.Options.{Options}
 use Rattle.write.specs.declared.Answer.the-variants.{Done}
@@ -205,84 +206,85 @@ in-front n small ns nm s a b at some x = record {
     same-parent : (j : ℕ) → j < nodesIn ns → parentAt (a ++ b) j ≡ parentAt a j
     same-parent j h = same-word a b j (there-too j h) 32 (lit≤ tt)
 
--- ---- where TREE's body stands in the file
+module _ (kind : Kind) where
+  -- ---- where TREE's body stands in the file
 
-module _ (rs ps ns nm : List ℕ) (o : Options) (asked : writesTree o ≡ true) where
-  body-lies : Lies (written rs ps ns nm o) (treePlace rs ps) (length (written rs ps ns nm o)) (treeBody ns nm)
-  unfolding treeHead
-  body-lies =
-      let w : List ℕ = written rs ps ns nm o in
-      let h : List ℕ = headerOf (versionOf rs) (count rs ps ns nm o) in
-      let t : List ℕ = tableBytes idSize rs ps in
-      let b : List ℕ = behindEntries rs ps ns nm o in
-      let r : List ℕ = trailerOf idSize sha1 (o .unhashed) (before rs ps ns nm o) in
-      let e : List ℕ = eoiePart idSize sha1 (has rs ps ns nm o) (offsetOf idSize rs ps) (toc rs ps ns nm o) in
-      let body : List ℕ = treeBody ns nm in
-      let head : List ℕ = extensionHead treeSignature (length body) in
-      let sparse : List ℕ = sparsePart (o .sparse) in
-      let parts : b ≡ ((head ++ body) ++ sparse) ++ e =
-      ap (λ (x : List ℕ). x ++ e) (bytes-for (writesTree o) body (o .sparse) ∙ ap (λ (t : Bool). (pick t (extensionHead treeSignature (length (pick t body []))) [] ++ pick t body []) ++ sparse) asked) in
-      let all : Lies w 0 (length w) w = record { fits = omega arith; rest = []; is = sym (append-nil w) } in
-      let l₀ : Lies w 0 (length w) (h ++ (t ++ (b ++ r))) = subst (λ (x : List ℕ). Lies w 0 (length w) x) (written-parts rs ps ns nm o) all in
-      let l₁ = lies-left b r (lies-right t (b ++ r) (lies-right h (t ++ (b ++ r)) l₀)) in
-      let l₂ : Lies w (0 + length h + length t) (length w) (((head ++ body) ++ sparse) ++ e) =
-      subst (λ (x : List ℕ). Lies w (0 + length h + length t) (length w) x) parts l₁ in
-      lies-at (lies-right head body (lies-left (head ++ body) sparse (lies-left ((head ++ body) ++ sparse) e l₂)))
-      (omega (arith, length-header (versionOf rs) (count rs ps ns nm o), length-head treeSignature (length body) refl))
+  module _ (rs : List ℕ) (ps : Paths) (ns nm : List ℕ) (o : Options) (asked : writesTree o ≡ true) where
+    body-lies : Lies (written kind rs ps ns nm o) (treePlace kind rs ps) (length (written kind rs ps ns nm o)) (treeBody kind ns nm)
+    unfolding treeHead
+    body-lies =
+        let w : List ℕ = written kind rs ps ns nm o in
+        let h : List ℕ = headerOf (versionOf rs) (count kind rs ps ns nm o) in
+        let t : List ℕ = tableBytes (kind .id) rs ps in
+        let b : List ℕ = behindEntries kind rs ps ns nm o in
+        let r : List ℕ = trailerOf kind (o .unhashed) (before kind rs ps ns nm o) in
+        let e : List ℕ = eoiePart kind (has kind rs ps ns nm o) (offsetOf (kind .id) rs ps) (toc kind rs ps ns nm o) in
+        let body : List ℕ = treeBody kind ns nm in
+        let head : List ℕ = extensionHead treeSignature (length body) in
+        let sparse : List ℕ = sparsePart (o .sparse) in
+        let parts : b ≡ ((head ++ body) ++ sparse) ++ e =
+        ap (λ (x : List ℕ). x ++ e) (bytes-for (writesTree o) body (o .sparse) ∙ ap (λ (t : Bool). (pick t (extensionHead treeSignature (length (pick t body []))) [] ++ pick t body []) ++ sparse) asked) in
+        let all : Lies w 0 (length w) w = record { fits = omega arith; rest = []; is = sym (append-nil w) } in
+        let l₀ : Lies w 0 (length w) (h ++ (t ++ (b ++ r))) = subst (λ (x : List ℕ). Lies w 0 (length w) x) (written-parts kind rs ps ns nm o) all in
+        let l₁ = lies-left b r (lies-right t (b ++ r) (lies-right h (t ++ (b ++ r)) l₀)) in
+        let l₂ : Lies w (0 + length h + length t) (length w) (((head ++ body) ++ sparse) ++ e) =
+        subst (λ (x : List ℕ). Lies w (0 + length h + length t) (length w) x) parts l₁ in
+        lies-at (lies-right head body (lies-left (head ++ body) sparse (lies-left ((head ++ body) ++ sparse) e l₂)))
+        (omega (arith, length-header (versionOf rs) (count kind rs ps ns nm o), length-head treeSignature (length body) refl))
 
--- TREE is written if a table is given and TREE is asked for
-both : (o : Options) → o .tree ≡ true → o .cache ≡ true → writesTree o ≡ true
-unfolding writesTree
-both o given wanted = ap (λ (t : Bool). pick t (o .cache) false) given ∙ wanted
+  -- TREE is written if a table is given and TREE is asked for
+  both : (o : Options) → o .tree ≡ true → o .cache ≡ true → writesTree o ≡ true
+  unfolding writesTree
+  both o given wanted = ap (λ (t : Bool). pick t (o .cache) false) given ∙ wanted
 
--- ---- THE THEOREMS
+  -- ---- THE THEOREMS
 
-module _ (rs ps ns nm : List ℕ) (o : Options) (out : List ℕ) (version size : ℕ)
-    (done : writeAll idSize sha1 depthLimit rs ps ns nm o out .answer ≡ Done version size) (few : length ns < 2 ^ 64) (ends : PathsEnd rs ps)
-    (records′ paths′ nodes′ : List ℕ)
-    (slices : Slices (bytes rs ps ns nm o out version size done few ends records′ paths′ nodes′) paths′ nodes′)
-    (roomy : Roomy rs ps ns o records′ paths′ nodes′) where
-  abbrev file : List ℕ
-  file = bytes rs ps ns nm o out version size done few ends records′ paths′ nodes′
+  module _ (rs : List ℕ) (ps : Paths) (ns nm : List ℕ) (o : Options) (out : List ℕ) (version size : ℕ)
+      (done : writeAll kind depthLimit rs ps ns nm o out .answer ≡ Done version size) (few : length ns < 2 ^ 64) (ends : PathsEnd rs ps)
+      (records′ paths′ nodes′ : List ℕ)
+      (slices : Slices (bytes kind rs ps ns nm o out version size done few ends records′ paths′ nodes′) paths′ nodes′)
+      (roomy : Roomy kind rs ps ns o records′ paths′ nodes′) where
+    abbrev file : List ℕ
+    file = bytes kind rs ps ns nm o out version size done few ends records′ paths′ nodes′
 
-  -- the tree that is written, as it is rendered into a store
-  abbrev stored : List ℕ
-  stored = treeBytes (treeWritten rs ps ns nm)
+    -- the tree that is written, as it is rendered into a store
+    abbrev stored : List ℕ
+    stored = treeBytes (treeWritten kind rs ps ns nm)
 
-  abbrev order-of : ℕ → ℕ
-  order-of j = getD (walk ns nm depthLimit 0) j 0
+    abbrev order-of : ℕ → ℕ
+    order-of j = getD (walk ns nm depthLimit 0) j 0
 
-  module _ (asked : writesTree o ≡ true) where
-    fits : Proper depthLimit ns nm
-    fits = proper rs ps ns nm o out version size done few asked
+    module _ (asked : writesTree o ≡ true) where
+      fits : Proper depthLimit ns nm
+      fits = proper kind rs ps ns nm o out version size done few asked
 
-    rendered : SameTree idSize ns nm file stored order-of
-    rendered =
-        let t : Tree = treeWritten rs ps ns nm in
-        let spelled : Node idSize (treePlace rs ps) (treeBody ns nm) t = written-tree-is-spelled rs ps ns nm o out version size done few asked in
-        let many : length stored ≡ nodesIn ns * 72 =
-        tree-length idSize (lit≤ tt) t spelled minusOne 0 ∙ ap (λ (k : ℕ). k * 72) (written-tree-nodes rs ps ns nm o out version size done few asked) in
-        let lies : Lies file (treePlace rs ps) (length file) (treeBody ns nm) =
-        subst (λ (f : List ℕ). Lies f (treePlace rs ps) (length f) (treeBody ns nm)) (sym (file-is rs ps ns nm o out version size done))
-        (body-lies rs ps ns nm o asked) in
-        let shown : ShowsTree file stored minusOne 0 t =
-        rendered-is-shown idSize (lit≤ tt) file (length file) (omega arith) (slices .file) t spelled lies (omega arith) in
-        shown-is-same idSize depthLimit ns nm (lit≤ tt) few fits file stored (treePlace rs ps) (omega arith) shown
+      rendered : SameTree (kind .id) ns nm file stored order-of
+      rendered =
+          let t : Tree = treeWritten kind rs ps ns nm in
+          let spelled : Node (kind .id) (treePlace kind rs ps) (treeBody kind ns nm) t = written-tree-is-spelled kind rs ps ns nm o out version size done few asked in
+          let many : length stored ≡ nodesIn ns * 72 =
+          tree-length (kind .id) (kind .fits) t spelled minusOne 0 ∙ ap (λ (k : ℕ). k * 72) (written-tree-nodes kind rs ps ns nm o out version size done few asked) in
+          let lies : Lies file (treePlace kind rs ps) (length file) (treeBody kind ns nm) =
+          subst (λ (f : List ℕ). Lies f (treePlace kind rs ps) (length f) (treeBody kind ns nm)) (sym (file-is kind rs ps ns nm o out version size done))
+          (body-lies rs ps ns nm o asked) in
+          let shown : ShowsTree file stored minusOne 0 t =
+          rendered-is-shown (kind .id) (kind .fits) file (length file) (omega arith) (slices .file) t spelled lies (omega arith) in
+          shown-is-same (kind .id) depthLimit ns nm (kind .fits) few fits file stored (treePlace kind rs ps) (omega arith) shown
 
-  -- the tree that the written file means is the table's
-  pub written-tree-is-the-tables : o .tree ≡ true → o .cache ≡ true → (t : Tree) × (treeMeant rs ps ns nm o ≡ option.some t) × ((at : ℕ → ℕ) × SameTree idSize ns nm file (treeBytes t) at)
-  written-tree-is-the-tables given wanted =
-      let asked : writesTree o ≡ true = both o given wanted in
-      (treeWritten rs ps ns nm, tree-is-meant rs ps ns nm o out version size done few asked, (order-of, rendered asked))
+    -- the tree that the written file means is the table's
+    pub written-tree-is-the-tables : o .tree ≡ true → o .cache ≡ true → (t : Tree) × (treeMeant kind rs ps ns nm o ≡ option.some t) × ((at : ℕ → ℕ) × SameTree (kind .id) ns nm file (treeBytes t) at)
+    written-tree-is-the-tables given wanted =
+        let asked : writesTree o ≡ true = both o given wanted in
+        (treeWritten kind rs ps ns nm, tree-is-meant kind rs ps ns nm o out version size done few asked, (order-of, rendered asked))
 
-  -- and it reads back
-  pub tree-reads-back-node-by-node : o .tree ≡ true → o .cache ≡ true
-      → (at : ℕ → ℕ) × SameTree idSize ns nm file (reading rs ps ns nm o out version size done few ends records′ paths′ nodes′ .nodes) at
-  tree-reads-back-node-by-node given wanted =
-      let asked : writesTree o ≡ true = both o given wanted in
-      let left : reading rs ps ns nm o out version size done few ends records′ paths′ nodes′ .nodes ≡ filled nodes′ stored =
-      tree-reads-back rs ps ns nm o out version size done few ends records′ paths′ nodes′ slices roomy asked in (
-        order-of,
-        subst (λ (m : List ℕ). SameTree idSize ns nm file m order-of) (sym left)
-            (in-front idSize (lit≤ tt) ns nm file stored (drop (length stored) nodes′) order-of (fits asked .some) (rendered asked)),
-      )
+    -- and it reads back
+    pub tree-reads-back-node-by-node : o .tree ≡ true → o .cache ≡ true
+        → (at : ℕ → ℕ) × SameTree (kind .id) ns nm file (reading kind rs ps ns nm o out version size done few ends records′ paths′ nodes′ .nodes) at
+    tree-reads-back-node-by-node given wanted =
+        let asked : writesTree o ≡ true = both o given wanted in
+        let left : reading kind rs ps ns nm o out version size done few ends records′ paths′ nodes′ .nodes ≡ filled nodes′ stored =
+        tree-reads-back kind rs ps ns nm o out version size done few ends records′ paths′ nodes′ slices roomy asked in (
+          order-of,
+          subst (λ (m : List ℕ). SameTree (kind .id) ns nm file m order-of) (sym left)
+              (in-front (kind .id) (kind .fits) ns nm file stored (drop (length stored) nodes′) order-of (fits asked .some) (rendered asked)),
+        )

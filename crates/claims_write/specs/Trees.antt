@@ -6,11 +6,11 @@ use mathlib.Core.Bool.{Bool, true}
 use mathlib.Core.List.{List}
 use mathlib.Core.Option.{none, some}
 use native.Mathlib.Omega.{arith}
-use lib.Dec.{lit≤}
 use lib.ListN.{length}
 use Rattle.laws.specs.Pick.{pick}
-use Rattle.format.specs.Format.{depthLimit, idSize}
-use Rattle.sha1.specs.Sha1.{sha1}
+use Rattle.format.specs.Format.{depthLimit}
+use Rattle.kind.specs.Kind.{Kind}
+use Rattle.entry.specs.Paths.{Paths}
 use Rattle.grammar.specs.Tree.{Tree, nodes, Node}
 use Rattle.grammar.specs.Reach.{depth-within, nodes-within}
 use Rattle.grammar.specs.DecideTree.{readTree, tree-decided}
@@ -27,41 +27,42 @@ use Rattle.claims_write.specs.Tree.{treeAt, tree-spelled, tree-shallow, 
 use Rattle.claims_write.specs.Count.{tree-nodes}
 use Rattle.claims_write.specs.Listed.{InFileOrder, Rows, same-list}
 
--- the tree of a node table, in a file with this record table: its names stand behind the entries
-abbrev pub treeWritten : List ℕ → List ℕ → List ℕ → List ℕ → Tree
-treeWritten rs ps ns nm = treeAt idSize ns nm depthLimit (treePlace rs ps) 0
+module _ (kind : Kind) where
+  -- the tree of a node table, in a file with this record table: its names stand behind the entries
+  abbrev pub treeWritten : List ℕ → Paths → List ℕ → List ℕ → Tree
+  treeWritten rs ps ns nm = treeAt (kind .id) ns nm depthLimit (treePlace kind rs ps) 0
 
-module _ (rs ps ns nm : List ℕ) (o : Options) (out : List ℕ) (version size : ℕ) (done : writeAll idSize sha1 depthLimit rs ps ns nm o out .answer ≡ Done version size) (few : length ns < 2 ^ 64) (asked : writesTree o ≡ true) where
-  -- a table that is written is proper
-  pub proper : Proper depthLimit ns nm
-  unfolding treeFits
-  proper = let d = done-says rs ps ns nm o out version size done in proper-exactly depthLimit ns nm .0 (sym (ap (λ (t : Bool). pick t (isProper depthLimit ns nm) true) asked) ∙ d .proper)
+  module _ (rs : List ℕ) (ps : Paths) (ns nm : List ℕ) (o : Options) (out : List ℕ) (version size : ℕ) (done : writeAll kind depthLimit rs ps ns nm o out .answer ≡ Done version size) (few : length ns < 2 ^ 64) (asked : writesTree o ≡ true) where
+    -- a table that is written is proper
+    pub proper : Proper depthLimit ns nm
+    unfolding treeFits
+    proper = let d = done-says kind rs ps ns nm o out version size done in proper-exactly depthLimit ns nm .0 (sym (ap (λ (t : Bool). pick t (isProper depthLimit ns nm) true) asked) ∙ d .proper)
 
-  -- TREE's body is the tree, which the grammar spells
-  pub written-tree-is-spelled : Node idSize (treePlace rs ps) (treeBody ns nm) (treeWritten rs ps ns nm)
-  written-tree-is-spelled = tree-spelled idSize depthLimit ns nm (lit≤ tt) few proper (treePlace rs ps)
+    -- TREE's body is the tree, which the grammar spells
+    pub written-tree-is-spelled : Node (kind .id) (treePlace kind rs ps) (treeBody kind ns nm) (treeWritten rs ps ns nm)
+    written-tree-is-spelled = tree-spelled (kind .id) depthLimit ns nm (kind .fits) few proper (treePlace kind rs ps)
 
-  pub written-tree-is-sorted : Sorted (treeWritten rs ps ns nm)
-  written-tree-is-sorted = tree-sorted idSize depthLimit ns nm (lit≤ tt) few proper (treePlace rs ps)
+    pub written-tree-is-sorted : Sorted (treeWritten rs ps ns nm)
+    written-tree-is-sorted = tree-sorted (kind .id) depthLimit ns nm (kind .fits) few proper (treePlace kind rs ps)
 
-  -- and the file means it
-  pub tree-is-meant : treeMeant rs ps ns nm o ≡ some (treeWritten rs ps ns nm)
-  tree-is-meant =
-      ap (λ (t : Bool). pick t (readTree idSize (treePlace rs ps) (treeBody ns nm)) none) asked ∙ tree-decided idSize (treePlace rs ps) (treeBody ns nm) (treeWritten rs ps ns nm) .1 written-tree-is-spelled
+    -- and the file means it
+    pub tree-is-meant : treeMeant kind rs ps ns nm o ≡ some (treeWritten rs ps ns nm)
+    tree-is-meant =
+        ap (λ (t : Bool). pick t (readTree (kind .id) (treePlace kind rs ps) (treeBody kind ns nm)) none) asked ∙ tree-decided (kind .id) (treePlace kind rs ps) (treeBody kind ns nm) (treeWritten rs ps ns nm) .1 written-tree-is-spelled
 
-  -- it has every node of the table once
-  pub written-tree-nodes : nodes (treeWritten rs ps ns nm) ≡ nodesIn ns
-  written-tree-nodes = tree-nodes depthLimit ns nm proper idSize (treePlace rs ps)
+    -- it has every node of the table once
+    pub written-tree-nodes : nodes (treeWritten rs ps ns nm) ≡ nodesIn ns
+    written-tree-nodes = tree-nodes depthLimit ns nm proper (kind .id) (treePlace kind rs ps)
 
-  -- a store of as many nodes as the table has is room enough
-  pub room-for-tree : (nodes′ : List ℕ) → nodesIn ns ≤ lent nodes′ → KeepsWithinDepth idSize (treeBody ns nm) depthLimit × HasRoom idSize (treeBody ns nm) (lent nodes′)
-  room-for-tree nodes′ h =
-      let x = written-tree-is-spelled in
-      let v : Tree = treeWritten rs ps ns nm in (
-        depth-within idSize (treeBody ns nm) (treePlace rs ps) v x depthLimit .1 (tree-shallow idSize depthLimit ns nm (lit≤ tt) few proper (treePlace rs ps)),
-        nodes-within idSize (treeBody ns nm) (treePlace rs ps) v x (lent nodes′) .1 (omega (arith, written-tree-nodes)),
-      )
+    -- a store of as many nodes as the table has is room enough
+    pub room-for-tree : (nodes′ : List ℕ) → nodesIn ns ≤ lent nodes′ → KeepsWithinDepth (kind .id) (treeBody kind ns nm) depthLimit × HasRoom (kind .id) (treeBody kind ns nm) (lent nodes′)
+    room-for-tree nodes′ h =
+        let x = written-tree-is-spelled in
+        let v : Tree = treeWritten rs ps ns nm in (
+          depth-within (kind .id) (treeBody kind ns nm) (treePlace kind rs ps) v x depthLimit .1 (tree-shallow (kind .id) depthLimit ns nm (kind .fits) few proper (treePlace kind rs ps)),
+          nodes-within (kind .id) (treeBody kind ns nm) (treePlace kind rs ps) v x (lent nodes′) .1 (omega (arith, written-tree-nodes)),
+        )
 
-  -- where the table's nodes stand in the order in which they are written, what is stored of the tree is the same node list, name places aside
-  pub same-nodes-are-stored : InFileOrder depthLimit ns nm → Rows idSize ns nm 0 (nodesIn ns) (treeBytes (treeWritten rs ps ns nm))
-  same-nodes-are-stored order = same-list idSize depthLimit ns nm proper order (treePlace rs ps)
+    -- where the table's nodes stand in the order in which they are written, what is stored of the tree is the same node list, name places aside
+    pub same-nodes-are-stored : InFileOrder depthLimit ns nm → Rows (kind .id) ns nm 0 (nodesIn ns) (treeBytes (treeWritten rs ps ns nm))
+    same-nodes-are-stored order = same-list (kind .id) depthLimit ns nm proper order (treePlace kind rs ps)

@@ -7,8 +7,9 @@ use mathlib.Core.List.{List}
 use native.Mathlib.Omega.{arith}
 use lib.ListN.{length}
 use Rattle.laws.specs.Pick.{pick}
-use Rattle.format.specs.Format.{idSize, depthLimit}
-use Rattle.sha1.specs.Sha1.{sha1}
+use Rattle.format.specs.Format.{depthLimit}
+use Rattle.kind.specs.Kind.{Kind}
+use Rattle.entry.specs.Paths.{Paths}
 use Rattle.entry.specs.Record.{recordsIn}
 use Rattle.node.specs.Store.{nodesIn}
 use Rattle.file.specs.declared.Answer.the-variants.{Read}
@@ -21,22 +22,23 @@ use Rattle.claims_write.specs.Meaning.{meaningsOf, PathsEnd, NoneRemoved
 use Rattle.claims_write.specs.Kept.{kept-length}
 use Rattle.claims_write.specs.Claims.{bytes, reading, index, Roomy, reads-back}
 
-module _ (rs ps ns nm : List ℕ) (o : Options) (out : List ℕ) (version size : ℕ)
-    (done : writeAll idSize sha1 depthLimit rs ps ns nm o out .answer ≡ Done version size) (few : length ns < 2 ^ 64) (ends : PathsEnd rs ps)
-    (records′ paths′ nodes′ : List ℕ)
-    (slices : Slices (bytes rs ps ns nm o out version size done few ends records′ paths′ nodes′) paths′ nodes′)
-    (roomy : Roomy rs ps ns o records′ paths′ nodes′) where
-  pub count-answered-is-the-tables : NoneRemoved rs → (sparse tree : Bool) × (used nodes : ℕ)
-      × (reading rs ps ns nm o out version size done few ends records′ paths′ nodes′ .answer ≡ Read version sparse tree (recordsIn rs) used nodes)
-  count-answered-is-the-tables stays =
-      let sparse : Bool = index rs ps ns nm o out version size done few ends records′ paths′ nodes′ .sparse in
-      let tree : Bool = writesTree o in
-      let used : ℕ = length (pathsBytes (meaningsOf idSize rs ps)) in
-      let nodes : ℕ = pick (writesTree o) (nodesIn ns) 0 in (
-        sparse,
-        tree,
-        used,
-        nodes,
-        reads-back rs ps ns nm o out version size done few ends records′ paths′ nodes′ slices roomy
-            ∙ ap (λ (k : ℕ). Read version sparse tree k used nodes) (kept-length rs (recordsIn rs) 0 (λ i a b. stays i (omega arith))),
-      )
+module _ (kind : Kind) where
+  module _ (rs : List ℕ) (ps : Paths) (ns nm : List ℕ) (o : Options) (out : List ℕ) (version size : ℕ)
+      (done : writeAll kind depthLimit rs ps ns nm o out .answer ≡ Done version size) (few : length ns < 2 ^ 64) (ends : PathsEnd rs ps)
+      (records′ paths′ nodes′ : List ℕ)
+      (slices : Slices (bytes kind rs ps ns nm o out version size done few ends records′ paths′ nodes′) paths′ nodes′)
+      (roomy : Roomy kind rs ps ns o records′ paths′ nodes′) where
+    pub count-answered-is-the-tables : NoneRemoved rs → (sparse tree : Bool) × (used nodes : ℕ)
+        × (reading kind rs ps ns nm o out version size done few ends records′ paths′ nodes′ .answer ≡ Read version sparse tree (recordsIn rs) used nodes)
+    count-answered-is-the-tables stays =
+        let sparse : Bool = index kind rs ps ns nm o out version size done few ends records′ paths′ nodes′ .sparse in
+        let tree : Bool = writesTree o in
+        let used : ℕ = length (pathsBytes (meaningsOf (kind .id) rs ps)) in
+        let nodes : ℕ = pick (writesTree o) (nodesIn ns) 0 in (
+          sparse,
+          tree,
+          used,
+          nodes,
+          reads-back kind rs ps ns nm o out version size done few ends records′ paths′ nodes′ slices roomy
+              ∙ ap (λ (k : ℕ). Read version sparse tree k used nodes) (kept-length rs (recordsIn rs) 0 (λ i a b. stays i (omega arith))),
+        )

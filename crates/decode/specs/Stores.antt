@@ -16,6 +16,7 @@ use Rattle.laws.specs.Tests.{Less, less, not-less, less?, AtMost, at-most, abov
 use Rattle.wire.specs.Places.{pathAt}
 use Rattle.wire.specs.declared.FileAt.{FileAt}
 use Rattle.wire.specs.declared.PathAt.{PathAt}
+use Rattle.entry.specs.Paths.{lyingIn}
 use Rattle.entry.specs.Record.{recordOf, recordsIn, putRecord, liesInside}
 use Rattle.entry.specs.Laws.{put-is-paste}
 use Rattle.entry.specs.Found.{kept-length, kept-inside, put-inside}
@@ -171,13 +172,13 @@ module _ (id : ℕ) (hid : id ≤ 32) (s : List ℕ) (end : FileAt) (version : �
       )
 
   -- whether a record's path lies in the store depends on the store's length alone
-  inside-length : (rs ps ps′ : List ℕ) (j : ℕ) → length ps′ ≡ length ps → liesInside rs ps′ j ≡ liesInside rs ps j
+  inside-length : (rs ps ps′ : List ℕ) (j : ℕ) → length ps′ ≡ length ps → liesInside rs (lyingIn ps′) j ≡ liesInside rs (lyingIn ps) j
   unfolding liesInside
   inside-length rs ps ps′ j e = rw e
 
   -- it stays so for the records before a run
   pub inside-kept : {n i : ℕ} {at : FileAt} {used : PathAt} {first : Bool} {prev : ℕ} {sparse : Bool} {rs ps : List ℕ} {o : Outcome} → Ran id s end version n i at used first prev sparse rs ps o → prev ≤ used .0 → used .0 ≤ length ps
-      → (j : ℕ) → j < i → liesInside (o .records) (o .paths) j ≡ liesInside rs ps j
+      → (j : ℕ) → j < i → liesInside (o .records) (lyingIn (o .paths)) j ≡ liesInside rs (lyingIn ps) j
   inside-kept done hp hu j hj = refl
   inside-kept unspelled hp hu j hj = refl
   inside-kept full hp hu j hj = refl
@@ -185,12 +186,12 @@ module _ (id : ℕ) (hid : id ≤ 32) (s : List ℕ) (end : FileAt) (version : �
       let t = turn i at (used .0) first prev rs ps flags keep suffix len next e hp hu h in
       let ps′ : List ℕ = paste ps (used .0) (pathOf s ps keep (suffix .0) len prev (used .0)) (keep + len) in
       inside-kept r (omega arith) (omega (arith, t .paths, t .ends)) j (omega arith)
-      ∙ kept-inside id s (at .0) flags (used .0) (used .0 + (keep + len)) rs i hid j (inl hj) ps′
+      ∙ kept-inside id s (at .0) flags (used .0) (used .0 + (keep + len)) rs i hid j (inl hj) (lyingIn ps′)
       ∙ inside-length rs ps ps′ j (t .paths)
 
   -- and the path of each record that a run read lies in the path store
   pub inside-read : {n i : ℕ} {at : FileAt} {used : PathAt} {first : Bool} {prev : ℕ} {sparse : Bool} {rs ps : List ℕ} {o : Outcome} → Ran id s end version n i at used first prev sparse rs ps o → prev ≤ used .0 → used .0 ≤ length ps → length ps < 2 ^ 64
-      → (j : ℕ) → i ≤ j → j < reached n i (o .answer) → liesInside (o .records) (o .paths) j ≡ true
+      → (j : ℕ) → i ≤ j → j < reached n i (o .answer) → liesInside (o .records) (lyingIn (o .paths)) j ≡ true
   inside-read done hp hu hl j a b = absurd (omega arith)
   inside-read unspelled hp hu hl j a b = absurd (omega arith)
   inside-read full hp hu hl j a b = absurd (omega arith)
@@ -199,7 +200,7 @@ module _ (id : ℕ) (hid : id ≤ 32) (s : List ℕ) (end : FileAt) (version : �
       let stop : ℕ = used .0 + (keep + len) in
       let rs′ : List ℕ = putRecord id s (at .0) flags (used .0) stop rs i in
       let ps′ : List ℕ = paste ps (used .0) (pathOf s ps keep (suffix .0) len prev (used .0)) (keep + len) in
-      let here : liesInside rs′ ps′ i ≡ true = put-inside id s (at .0) flags (used .0) stop rs i hid (t .front) hi ps′ (omega arith) (omega (arith, t .paths, t .ends)) (omega (arith, t .ends)) in
+      let here : liesInside rs′ (lyingIn ps′) i ≡ true = put-inside id s (at .0) flags (used .0) stop rs i hid (t .front) hi ps′ (omega arith) (omega (arith, t .paths, t .ends)) (omega (arith, t .ends)) in
       ⊎-elim
       (λ l. inside-read r (omega arith) (omega (arith, t .paths, t .ends)) (omega (arith, t .paths)) j (omega arith) (next-reached (o .answer) b))
       (λ l.

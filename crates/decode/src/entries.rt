@@ -3,8 +3,7 @@
 ghost use mathlib.Core.Path.{_≡_};
 ghost use Prim.Native.Nat.{_+_, _-_, _*_, _≤_};
 ghost use lib.ListN.{length};
-ghost use Rattle.format.specs.Format.{idSize};
-ghost use Rattle.entry.specs.Layout.{idRoom};
+ghost use Rattle.format.specs.Format.{idSize, idRoom};
 ghost use Rattle.decode.specs.Bounds.{blockSize, minEntrySize, maxEntries};
 ghost use Rattle.decode.specs.Entries.{RoomFor, withRecord, withPath, marked, least, outcome, runOf, readEntries};
 use measure::Measured;
@@ -210,7 +209,8 @@ pub fn read_entries(
     records: &mut [u8],
     paths: &mut [u8],
 ) -> Answer
-    ensures { λ r. ⌜ outcome r (now (records .exit)) (now (paths .exit)) ≡ readEntries idSize (now (file .entry)) end version count index from before (now (records .entry)) (now (paths .entry)) ⌝ }
+    ensures { λ r. ⌜ outcome r (now (records .exit)) (now (paths .exit))
+        ≡ readEntries idSize (now (file .entry)) end version count index from before (now (records .entry)) (now (paths .entry)) ⌝ }
 {
     let place = before.used;
     let first = before.first;

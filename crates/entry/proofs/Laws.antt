@@ -11,9 +11,10 @@ use borrow.Author.Tests.{lt-ltb, le-ltb, le-leb, lt-leb, eq-eqb, ne-eqb}
 use Rattle.laws.specs.Lists.{length-part}
 use Rattle.laws.specs.Paste.{paste-then, paste-take}
 use Rattle.wire.specs.BigEndian.{beAt, bytesOf, length-bytes}
-use Rattle.format.specs.Format.{idSize}
+use Rattle.format.specs.Format.{idSize, fieldsSize}
 use Rattle.entry.specs.Flags.{stageRaw, stageOf, extendedToMemory}
 use Rattle.entry.specs.Mode.{keepMode, modeIn, dirAt}
+use Rattle.entry.specs.Paths.{Paths, lyingIn}
 use Rattle.entry.specs.Record.{frontOf, restOf, recordOf, putRecord, fieldAt, startAt, endAt, idAt, liesInside, pathAt}
 use Rattle.entry.specs.Stat.{timeOf, statAt}
 use Rattle.entry.specs.Laws.{dir-inside, length-front, to-flags, to-start, to-end, length-rest, put-is-paste, field-is, field-out, id-is, id-out, inside-none, inside-crossed, inside-is, path-is}
@@ -82,7 +83,7 @@ module _ (id : ℕ) (s : List ℕ) (at flags start end : ℕ) (rs : List ℕ) (i
 -- ---- what the code's pastes come to
 
 pub front-put : (d d₁ d₂ d₃ s : List ℕ) (at m k : ℕ) → m ≡ beAt 4 s (at + 24) → k ≡ keepMode m → d₁ ≡ paste d 0 (drop at s) 24 → d₂ ≡ paste d₁ 24 (bytesOf 4 k) 4 → d₃ ≡ paste d₂ 28 (drop (at + 28) s) 32
-    → at + 60 ≤ length s → 60 ≤ length d → d₃ ≡ paste d 0 (frontOf idSize s at) 60
+    → at + fieldsSize ≤ length s → fieldsSize ≤ length d → d₃ ≡ paste d 0 (frontOf idSize s at) fieldsSize
 unfolding frontOf
 front-put d d₁ d₂ d₃ s at m k em ek e₁ e₂ e₃ hs hd =
     let x : List ℕ = take 24 (drop at s) in
@@ -91,39 +92,39 @@ front-put d d₁ d₂ d₃ s at m k em ek e₁ e₂ e₃ hs hd =
     let lx = length-part 24 at s (omega arith) in
     let ly = length-bytes 4 (modeIn s at) in
     let two = paste-then d d₁ d₂ 0 24 x y 24 4 28 (e₁ ∙ paste-take d 0 (drop at s) 24) (e₂ ∙ ap (λ (q : ℕ). paste d₁ 24 (bytesOf 4 q) 4) (ek ∙ ap keepMode em)) refl refl lx (omega (arith, ly)) (omega arith) in
-    paste-then d d₂ d₃ 0 28 (x ++ y) z 28 32 60 two (e₃ ∙ paste-take d₂ 28 (drop (at + 28) s) 32) refl refl (length-append x y ∙ omega (arith, lx, ly)) (omega (arith, length-part 32 (at + 28) s (omega arith))) (omega arith)
+    paste-then d d₂ d₃ 0 28 (x ++ y) z 28 32 fieldsSize two (e₃ ∙ paste-take d₂ 28 (drop (at + 28) s) 32) refl refl (length-append x y ∙ omega (arith, lx, ly)) (omega (arith, length-part 32 (at + 28) s (omega arith))) (omega arith)
 
-pub rest-put : (d d₁ d₂ d₃ d₄ d₅ : List ℕ) (flags start end : ℕ) → d₁ ≡ paste d 60 (replicate 12 0) 12 → d₂ ≡ paste d₁ 72 (bytesOf 4 flags) 4 → d₃ ≡ paste d₂ 76 (bytesOf 8 start) 8 → d₄ ≡ paste d₃ 84 (bytesOf 8 end) 8
-    → d₅ ≡ paste d₄ 92 (replicate 4 0) 4 → 96 ≤ length d → d₅ ≡ paste d 60 (restOf idSize flags start end) 36
+pub rest-put : (d d₁ d₂ d₃ d₄ d₅ : List ℕ) (flags start end : ℕ) → d₁ ≡ paste d fieldsSize (replicate 12 0) 12 → d₂ ≡ paste d₁ 72 (bytesOf 4 flags) 4 → d₃ ≡ paste d₂ 76 (bytesOf 8 start) 8 → d₄ ≡ paste d₃ 84 (bytesOf 8 end) 8
+    → d₅ ≡ paste d₄ 92 (replicate 4 0) 4 → 96 ≤ length d → d₅ ≡ paste d fieldsSize (restOf idSize flags start end) 36
 unfolding restOf
 rest-put d d₁ d₂ d₃ d₄ d₅ flags start end e₁ e₂ e₃ e₄ e₅ h =
     let w : List ℕ = replicate 12 0 in
     let x : List ℕ = bytesOf 4 flags in
     let y : List ℕ = bytesOf 8 start in
     let z : List ℕ = bytesOf 8 end in
-    let two = paste-then d d₁ d₂ 60 72 w x 12 4 16 e₁ e₂ refl refl refl (omega (arith, length-bytes 4 flags)) (omega arith) in
-    let three = paste-then d d₂ d₃ 60 76 (w ++ x) y 16 8 24 two e₃ refl refl (to-flags idSize flags start end (lit≤ tt)) (omega (arith, length-bytes 8 start)) (omega arith) in
-    let four = paste-then d d₃ d₄ 60 84 (w ++ x ++ y) z 24 8 32 three e₄ refl refl (to-start idSize flags start end (lit≤ tt)) (omega (arith, length-bytes 8 end)) (omega arith) in
-    paste-then d d₄ d₅ 60 92 (w ++ x ++ y ++ z) (replicate 4 0) 32 4 36 four e₅ refl refl (to-end idSize flags start end (lit≤ tt)) (lit≤ tt) (omega arith)
+    let two = paste-then d d₁ d₂ fieldsSize 72 w x 12 4 16 e₁ e₂ refl refl refl (omega (arith, length-bytes 4 flags)) (omega arith) in
+    let three = paste-then d d₂ d₃ fieldsSize 76 (w ++ x) y 16 8 24 two e₃ refl refl (to-flags idSize flags start end (lit≤ tt)) (omega (arith, length-bytes 8 start)) (omega arith) in
+    let four = paste-then d d₃ d₄ fieldsSize 84 (w ++ x ++ y) z 24 8 32 three e₄ refl refl (to-start idSize flags start end (lit≤ tt)) (omega (arith, length-bytes 8 end)) (omega arith) in
+    paste-then d d₄ d₅ fieldsSize 92 (w ++ x ++ y ++ z) (replicate 4 0) 32 4 36 four e₅ refl refl (to-end idSize flags start end (lit≤ tt)) (lit≤ tt) (omega arith)
 
-pub record-put : (rs rs′ w w₁ w₂ s : List ℕ) (at i flags start end : ℕ) → w₁ ≡ paste w 0 (frontOf idSize s at) 60 → w₂ ≡ paste w₁ 60 (restOf idSize flags start end) 36 → rs′ ≡ paste rs (i * 96) (drop 0 w₂) 96
-    → length w ≡ 96 → 60 ≤ length s → at ≤ length s - 60 → i < length rs / 96 → rs′ ≡ putRecord idSize s at flags start end rs i
+pub record-put : (rs rs′ w w₁ w₂ s : List ℕ) (at i flags start end : ℕ) → w₁ ≡ paste w 0 (frontOf idSize s at) fieldsSize → w₂ ≡ paste w₁ fieldsSize (restOf idSize flags start end) 36 → rs′ ≡ paste rs (i * 96) (drop 0 w₂) 96
+    → length w ≡ 96 → fieldsSize ≤ length s → at ≤ length s - fieldsSize → i < length rs / 96 → rs′ ≡ putRecord idSize s at flags start end rs i
 unfolding recordOf
-record-put rs rs′ w w₁ w₂ s at i flags start end e₁ e₂ e₃ hw h60 hat hi =
-    let hs : at + 60 ≤ length s = omega arith in
+record-put rs rs′ w w₁ w₂ s at i flags start end e₁ e₂ e₃ hw hs′ hat hi =
+    let hs : at + fieldsSize ≤ length s = omega arith in
     let x : List ℕ = frontOf idSize s at ++ restOf idSize flags start end in
     let lx : length x ≡ 96 = length-append (frontOf idSize s at) (restOf idSize flags start end) ∙ omega (arith, length-front idSize s at hs, length-rest idSize flags start end (lit≤ tt)) in
-    let made = paste-then w w₁ w₂ 0 60 (frontOf idSize s at) (restOf idSize flags start end) 60 36 96 e₁ e₂ refl refl (length-front idSize s at hs) (omega (arith, length-rest idSize flags start end (lit≤ tt))) (omega arith) in
+    let made = paste-then w w₁ w₂ 0 fieldsSize (frontOf idSize s at) (restOf idSize flags start end) fieldsSize 36 96 e₁ e₂ refl refl (length-front idSize s at hs) (omega (arith, length-rest idSize flags start end (lit≤ tt))) (omega arith) in
     let whole : w₂ ≡ x = made ∙ (λ k. take-all 96 x (omega arith) k ++ drop-of-length-le w {i = 96} (omega arith) k) ∙ append-nil x in
     e₃ ∙ ap (λ (l : List ℕ). paste rs (i * 96) l 96) whole ∙ sym (put-is-paste idSize s at flags start end rs i hs (omega arith))
 
-pub put-short : (s : List ℕ) (at flags start end : ℕ) (rs : List ℕ) (i : ℕ) → length s < 60 → rs ≡ putRecord idSize s at flags start end rs i
+pub put-short : (s : List ℕ) (at flags start end : ℕ) (rs : List ℕ) (i : ℕ) → length s < fieldsSize → rs ≡ putRecord idSize s at flags start end rs i
 put-short s at flags start end rs i h = put-no-entry idSize s at flags start end rs i (omega arith)
 
-pub put-past : (s : List ℕ) (at flags start end : ℕ) (rs : List ℕ) (i : ℕ) → length s - 60 < at → rs ≡ putRecord idSize s at flags start end rs i
+pub put-past : (s : List ℕ) (at flags start end : ℕ) (rs : List ℕ) (i : ℕ) → length s - fieldsSize < at → rs ≡ putRecord idSize s at flags start end rs i
 put-past s at flags start end rs i h = put-no-entry idSize s at flags start end rs i (omega arith)
 
-pub put-none : (s : List ℕ) (at flags start end : ℕ) (rs : List ℕ) (i : ℕ) → 60 ≤ length s → at ≤ length s - 60 → length rs / 96 ≤ i → rs ≡ putRecord idSize s at flags start end rs i
+pub put-none : (s : List ℕ) (at flags start end : ℕ) (rs : List ℕ) (i : ℕ) → fieldsSize ≤ length s → at ≤ length s - fieldsSize → length rs / 96 ≤ i → rs ≡ putRecord idSize s at flags start end rs i
 put-none s at flags start end rs i h k l = put-no-record idSize s at flags start end rs i (omega arith) l
 
 -- ---- what the accessors answer
@@ -135,7 +136,7 @@ pub id-in : (rs d d₁ : List ℕ) (i : ℕ) → d₁ ≡ paste d 0 (drop (i * 9
 id-in rs d d₁ i e l h =
     e ∙ (λ k. take idSize (drop (i * 96 + 40) rs) ++ drop-of-length-le d {i = idSize} (omega arith) k) ∙ append-nil (take idSize (drop (i * 96 + 40) rs)) ∙ sym (id-is idSize rs i h)
 
-module _ (rs ps : List ℕ) (i : ℕ) where
+module _ (rs : List ℕ) (ps : Paths) (i : ℕ) where
   pub path-empty : false ≡ liesInside rs ps i → [] ≡ pathAt rs ps i
   unfolding pathAt
   path-empty e = sym (rw (← e))
@@ -147,8 +148,8 @@ module _ (rs ps : List ℕ) (i : ℕ) where
     pub path-crossed : end < start → [] ≡ pathAt rs ps i
     path-crossed k = path-empty (inside-crossed rs ps i h start end es ee k)
 
-    pub path-past : start ≤ end → length ps < end → [] ≡ pathAt rs ps i
-    path-past k l = path-empty (sym (lt-leb end (length ps) l) ∙ inside-is rs ps i h start end es ee k)
+pub path-past : (rs store : List ℕ) (i : ℕ) → i < length rs / 96 → (start end : ℕ) → start ≡ startAt rs i → end ≡ endAt rs i → start ≤ end → length store < end → [] ≡ pathAt rs (lyingIn store) i
+path-past rs store i h start end es ee k l = path-empty rs (lyingIn store) i (sym (lt-leb end (length store) l) ∙ inside-is rs store i h start end es ee k)
 
 -- ---- what the file system said
 

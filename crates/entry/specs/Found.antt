@@ -18,6 +18,7 @@ use Rattle.laws.specs.Paste.{getD-before, getD-pasted, getD-after}
 use Rattle.wire.specs.BigEndian.{beAt, bytesOf, length-bytes, be-same, be-left, be-right, be-bytes, be-pasted}
 use Rattle.entry.specs.Flags.{stageRaw}
 use Rattle.entry.specs.Mode.{modeIn}
+use Rattle.entry.specs.Paths.{Paths, lyingIn}
 use Rattle.entry.specs.Record.{frontOf, restOf, recordOf, putRecord, fieldAt, flagsAt, modeAt, stageAt, startAt, endAt, idAt, liesInside, pathAt}
 use Rattle.entry.specs.Stat.{statAt, statIn}
 use Rattle.entry.specs.Laws.{mode-small, length-front, length-zeros, to-flags, to-start, to-end, length-record, put-is-paste, field-is, id-is, id-out, inside-is, path-is}
@@ -179,11 +180,11 @@ module _ (rs : List ℕ) (i : ℕ) (x : List ℕ) (hx : length x ≡ 96) (hi : i
         (ap (λ (n : ℕ). pick (ltb j (length rs / 96)) n 0)
         (be-same w written rs (j * 96 + k) (j * 96 + k) (λ m l. rw (add-assoc (j * 96) k m) (byte-kept (k + m) (omega arith)))))
 
-    pub path-kept : (ps : List ℕ) → pathAt written ps j ≡ pathAt rs ps j
+    pub path-kept : (ps : Paths) → pathAt written ps j ≡ pathAt rs ps j
     unfolding pathAt liesInside
     path-kept ps = rw (length-put, field-kept 8 76 (lit≤ tt), field-kept 8 84 (lit≤ tt))
 
-    pub inside-kept : (ps : List ℕ) → liesInside written ps j ≡ liesInside rs ps j
+    pub inside-kept : (ps : Paths) → liesInside written ps j ≡ liesInside rs ps j
     unfolding liesInside
     inside-kept ps = rw (length-put, field-kept 8 76 (lit≤ tt), field-kept 8 84 (lit≤ tt))
 
@@ -228,10 +229,10 @@ module _ (id : ℕ) (s : List ℕ) (at flags start end : ℕ) (rs : List ℕ) (i
     pub kept-id : (n : ℕ) → n ≤ 56 → idAt n after j ≡ idAt n rs j
     kept-id n l = put-or-not (λ q. idAt n q j ≡ idAt n rs j) refl (λ h m. id-kept rs i (recordOf id s at flags start end) (length-record id s at flags start end hid h) m j apart n l)
 
-    pub kept-path : (ps : List ℕ) → pathAt after ps j ≡ pathAt rs ps j
+    pub kept-path : (ps : Paths) → pathAt after ps j ≡ pathAt rs ps j
     kept-path ps = put-or-not (λ q. pathAt q ps j ≡ pathAt rs ps j) refl (λ h m. path-kept rs i (recordOf id s at flags start end) (length-record id s at flags start end hid h) m j apart ps)
 
-    pub kept-inside : (ps : List ℕ) → liesInside after ps j ≡ liesInside rs ps j
+    pub kept-inside : (ps : Paths) → liesInside after ps j ≡ liesInside rs ps j
     kept-inside ps = put-or-not (λ q. liesInside q ps j ≡ liesInside rs ps j) refl (λ h m. inside-kept rs i (recordOf id s at flags start end) (length-record id s at flags start end hid h) m j apart ps)
 
   -- ---- where the entry's bytes and the record are there, what was put is found
@@ -290,7 +291,7 @@ module _ (id : ℕ) (s : List ℕ) (at flags start end : ℕ) (rs : List ℕ) (i
         ∙ record-byte id s at flags start end hid hs (40 + k) (inr (omega arith, omega arith))
         ∙ sym (rw (add-assoc at 40 k) at (getD-part s (at + 40) id k q)))
 
-    module _ (ps : List ℕ) (hse : start ≤ end) (hep : end ≤ length ps) (small : end < 2 ^ 64) where
+    module _ (store : List ℕ) (hse : start ≤ end) (hep : end ≤ length store) (small : end < 2 ^ 64) where
       there : i < length after / 96
       there = rw kept-length hi
 
@@ -300,8 +301,8 @@ module _ (id : ℕ) (s : List ℕ) (at flags start end : ℕ) (rs : List ℕ) (i
       ends : end ≡ endAt after i
       ends = sym (put-end small)
 
-      pub put-inside : liesInside after ps i ≡ true
-      put-inside = sym (inside-is after ps i there start end starts ends hse) ∙ le-leb end (length ps) hep
+      pub put-inside : liesInside after (lyingIn store) i ≡ true
+      put-inside = sym (inside-is after store i there start end starts ends hse) ∙ le-leb end (length store) hep
 
-      pub put-path : pathAt after ps i ≡ take (end - start) (drop start ps)
-      put-path = sym (path-is after ps i there start end starts ends hse hep)
+      pub put-path : pathAt after (lyingIn store) i ≡ take (end - start) (drop start store)
+      put-path = sym (path-is after store i there start end starts ends hse hep)

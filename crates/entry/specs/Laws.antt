@@ -11,6 +11,7 @@ use borrow.Author.Tests.{lt-ltb, le-ltb, le-leb, lt-leb}
 use Rattle.laws.specs.Lists.{length-part}
 use Rattle.wire.specs.BigEndian.{beAt, bytesOf, length-bytes}
 use Rattle.entry.specs.Mode.{keepMode, directory, modeIn, dirAt}
+use Rattle.entry.specs.Paths.{Paths, lyingIn}
 use Rattle.entry.specs.Record.{frontOf, restOf, recordOf, putRecord, fieldAt, startAt, endAt, idAt, liesInside, pathAt}
 
 -- ---- the mode
@@ -85,7 +86,7 @@ module _ (id : ℕ) (rs : List ℕ) (i : ℕ) where
   unfolding idAt
   id-out h = sym (rw (le-ltb i (length rs / 96) h))
 
-module _ (rs ps : List ℕ) (i : ℕ) where
+module _ (rs : List ℕ) (ps : Paths) (i : ℕ) where
   pub inside-none : length rs / 96 ≤ i → false ≡ liesInside rs ps i
   unfolding liesInside
   inside-none h = sym (rw (le-ltb i (length rs / 96) h))
@@ -95,10 +96,12 @@ module _ (rs ps : List ℕ) (i : ℕ) where
     unfolding liesInside
     inside-crossed k = sym (rw (lt-ltb i (length rs / 96) h, ← es, ← ee, lt-leb start end k))
 
-    pub inside-is : start ≤ end → leb end (length ps) ≡ liesInside rs ps i
-    unfolding liesInside
-    inside-is k = sym (rw (lt-ltb i (length rs / 96) h, ← es, ← ee, le-leb start end k))
+-- and of a store
+module _ (rs store : List ℕ) (i : ℕ) (h : i < length rs / 96) (start end : ℕ) (es : start ≡ startAt rs i) (ee : end ≡ endAt rs i) where
+  pub inside-is : start ≤ end → leb end (length store) ≡ liesInside rs (lyingIn store) i
+  unfolding liesInside
+  inside-is k = sym (rw (lt-ltb i (length rs / 96) h, ← es, ← ee, le-leb start end k))
 
-    pub path-is : start ≤ end → end ≤ length ps → take (end - start) (drop start ps) ≡ pathAt rs ps i
-    unfolding pathAt
-    path-is k l = sym (rw (← inside-is k, le-leb end (length ps) l, ← es, ← ee))
+  pub path-is : start ≤ end → end ≤ length store → take (end - start) (drop start store) ≡ pathAt rs (lyingIn store) i
+  unfolding pathAt
+  path-is k l = sym (rw (← inside-is k, le-leb end (length store) l, ← es, ← ee))

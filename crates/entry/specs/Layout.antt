@@ -4,10 +4,6 @@ use Prim.Native.Nat.{ℕ}
 abbrev pub recordSize : ℕ
 recordSize = 96
 
--- the bytes that a record has for an id
-abbrev pub idRoom : ℕ
-idRoom = 32
-
 -- where the fields start, in an entry and in a record
 abbrev pub ctimePlace : ℕ
 ctimePlace = 0

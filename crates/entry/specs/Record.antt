@@ -8,8 +8,10 @@ use lib.Dec.{leb, ltb}
 use lib.Seq.{paste}
 use Rattle.laws.specs.Pick.{pick}
 use Rattle.wire.specs.BigEndian.{beAt, bytesOf}
+use Rattle.format.specs.Format.{idRoom}
 use Rattle.entry.specs.Flags.{stageRaw}
-use Rattle.entry.specs.Layout.{recordSize, idRoom, modePlace, uidPlace, idPlace, flagsPlace, startPlace, endPlace}
+use Rattle.entry.specs.Layout.{recordSize, modePlace, uidPlace, idPlace, flagsPlace, startPlace, endPlace}
+use Rattle.entry.specs.Paths.{Paths}
 use Rattle.entry.specs.Mode.{modeIn}
 
 -- how many records a table has: bytes behind the last whole record are none
@@ -60,10 +62,10 @@ endAt = fieldAt 8 endPlace
 unfoldable pub idAt : ℕ → List ℕ → ℕ → List ℕ
 idAt id rs i = pick (ltb i (recordsIn rs)) (take id (drop (i * recordSize + idPlace) rs)) (replicate id 0)
 
--- whether record i is there and its path lies in the path store
-unfoldable pub liesInside : List ℕ → List ℕ → ℕ → Bool
-liesInside rs ps i = pick (ltb i (recordsIn rs)) (pick (leb (startAt rs i) (endAt rs i)) (leb (endAt rs i) (length ps)) false) false
+-- whether record i is there and its path lies where paths lie
+unfoldable pub liesInside : List ℕ → Paths → ℕ → Bool
+liesInside rs ps i = pick (ltb i (recordsIn rs)) (pick (leb (startAt rs i) (endAt rs i)) (leb (endAt rs i) (length (ps .store))) false) false
 
--- the path of record i; empty where it does not lie in the path store
-unfoldable pub pathAt : List ℕ → List ℕ → ℕ → List ℕ
-pathAt rs ps i = pick (liesInside rs ps i) (take (endAt rs i - startAt rs i) (drop (startAt rs i) ps)) []
+-- the path of record i; empty where it does not lie there
+unfoldable pub pathAt : List ℕ → Paths → ℕ → List ℕ
+pathAt rs ps i = pick (liesInside rs ps i) (take (endAt rs i - startAt rs i) (drop (startAt rs i) (ps .store))) []

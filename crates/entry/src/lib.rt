@@ -6,6 +6,7 @@ ghost use lib.ListN.{length};
 ghost use lib.Seq.{paste};
 ghost use Rattle.format.specs.Format.{idSize};
 ghost use Rattle.entry.specs.Layout.{recordSize, idPlace};
+ghost use Rattle.entry.specs.Paths.{lyingIn};
 ghost use Rattle.entry.specs.Record.{recordsIn, frontOf, restOf, putRecord, fieldAt, flagsAt, modeAt, stageAt, startAt, endAt, idAt, liesInside, pathAt};
 use mode::MODE_AT;
 use mode::MODE_END;
@@ -19,7 +20,7 @@ pub const RECORD_SIZE: usize = 96;
 // Where the parts of a record start. As far as the id they stand as in the entry; zeros fill the room of an id.
 const ID_AT: usize = 40;
 
-const ZEROS_AT: usize = 60;
+const ZEROS_AT: usize = ID_AT + format::ID_SIZE;
 
 const FLAGS_AT: usize = 72;
 
@@ -165,7 +166,7 @@ pub fn id_at(records: &[u8], i: usize) -> [u8; format::ID_SIZE]
 
 // Whether record i is there and its path lies in the path store.
 pub fn lies_inside(records: &[u8], paths: &[u8], i: usize) -> bool
-    ensures { λ r. ⌜ r ≡ liesInside (now (records .entry)) (now (paths .entry)) i ⌝ }
+    ensures { λ r. ⌜ r ≡ liesInside (now (records .entry)) (lyingIn (now (paths .entry))) i ⌝ }
 {
     if records.len() / RECORD_SIZE <= i {
         return false;
@@ -180,7 +181,7 @@ pub fn lies_inside(records: &[u8], paths: &[u8], i: usize) -> bool
 
 // The path of record i, a part of the path store; the empty part where it lies outside. Nobody asks for a path in another way.
 pub fn path_of<'a>(records: &[u8], paths: &'a [u8], i: usize) -> &'a [u8]
-    ensures { λ r. ⌜ now r ≡ pathAt (now (records .entry)) (now (paths .entry)) i ⌝ }
+    ensures { λ r. ⌜ now r ≡ pathAt (now (records .entry)) (lyingIn (now (paths .entry))) i ⌝ }
 {
     if records.len() / RECORD_SIZE <= i {
         return &paths[0..0];

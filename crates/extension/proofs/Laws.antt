@@ -18,10 +18,11 @@ use Rattle.sha1.specs.Length.{length-sha1}
 use Rattle.sha1.specs.Pieces.{digestAfter, fed, finished, fedAll}
 use Rattle.sha1.specs.Theorems.{pieces-finish}
 use Rattle.sha1.specs.declared.Digest.{Digest}
-use Rattle.extension.specs.Signatures.{sdir, firstByte, IEOT, EOIE}
+use Rattle.kind.specs.Sha1.{sha1Kind}
+use Rattle.extension.specs.Signatures.{TREE, sdir, firstByte, IEOT, EOIE}
 use Rattle.extension.specs.Iter.{extensionAt, stepAt, Run, runAt, firstWhere, lastWhere, firstAt}
 use Rattle.extension.specs.Theorems.{Met, met, Tabled, tabled, run-done, run-broken, run-more}
-use Rattle.extension.specs.Decode.{mandatory, forbidden, marks, latest, sparseIn, judged, walkFrom}
+use Rattle.extension.specs.Decode.{mandatory, forbidden, marks, latest, latestOf, sparseIn, judged, allFrom}
 use Rattle.extension.specs.IndexEntryOffsetTable.{tableAt, pairIn, tableIn, tableFrom, pairFrom}
 use Rattle.extension.specs.EndOfIndexEntry.{headersOf, lastBody, priorAt, verifiedAt, offsetAt, offsetIn}
 use Rattle.extension.specs.declared.end_of_index_entry.Prior.{Prior}
@@ -32,8 +33,9 @@ use Rattle.extension.specs.declared.iter.Step.{Step}
 use Rattle.extension.specs.declared.iter.Step.the-variants.{Extension, Done, Broken}
 use Rattle.extension.specs.declared.iter.Body.{Body}
 use Rattle.extension.specs.declared.iter.Body.the-variants.{Lies, Missing}
-use Rattle.extension.specs.declared.decode.Walked.{Walked}
-use Rattle.extension.specs.declared.decode.Walked.the-variants.{Filled, NotFilled, Mandatory}
+use Rattle.extension.specs.declared.decode.Bodies.{Bodies}
+use Rattle.extension.specs.declared.decode.Space.{Space}
+use Rattle.extension.specs.declared.decode.Space.the-variants.{Filled, NotFilled, Mandatory}
 use Rattle.extension.specs.declared.index_entry_offset_table.Table.{Table}
 use Rattle.extension.specs.declared.index_entry_offset_table.Table.the-variants.{Pairs, NoTable}
 use Rattle.extension.specs.declared.index_entry_offset_table.Offset.{Offset}
@@ -104,25 +106,25 @@ pub ruleset firsts = (step-less, first-done, first-broken, first-here, first-nex
 
 -- ---- the walk: what is left of it, from the present cursor, comes to r
 
-module _ (s : List ℕ) (c : Cursor) (x : Step) (e : x ≡ stepAt s (c .at .0) (c .end .0)) (wanted : ℕ) (sparse : Bool) (last : Body) (r : Walked)
-    (inv : walkFrom wanted sparse last (runAt s (c .at .0) (c .end .0)) ≡ r) where
-  pub walk-done : x ≡ Done → Filled sparse last ≡ r
+module _ (s : List ℕ) (c : Cursor) (x : Step) (e : x ≡ stepAt s (c .at .0) (c .end .0)) (sparse : Bool) (last : Bodies) (r : Space)
+    (inv : allFrom sparse last (runAt s (c .at .0) (c .end .0)) ≡ r) where
+  pub all-done : x ≡ Done → Filled sparse last ≡ r
   unfolding judged sparseIn lastWhere
-  walk-done q = sym (rw (run-done s (c .at .0) (c .end .0) (sym e ∙ q))) ∙ inv
+  all-done q = sym (rw (run-done s (c .at .0) (c .end .0) (sym e ∙ q))) ∙ inv
 
-  pub walk-broken : x ≡ Broken → NotFilled (c .at) ≡ r
+  pub all-broken : x ≡ Broken → NotFilled (c .at) ≡ r
   unfolding judged
-  walk-broken q = sym (rw (run-broken s (c .at .0) (c .end .0) (sym e ∙ q))) ∙ inv
+  all-broken q = sym (rw (run-broken s (c .at .0) (c .end .0) (sym e ∙ q))) ∙ inv
 
   module _ (signature : ℕ) (start stop : FileAt) (next : Cursor) (q : x ≡ Extension signature start stop next) (t : Bool) (o : t ≡ forbidden signature (start .0) (stop .0)) where
-    pub walk-forbidden : t ≡ true → Mandatory signature ≡ r
+    pub all-forbidden : t ≡ true → Mandatory signature ≡ r
     unfolding judged
-    walk-forbidden y = sym (rw (run-more s (c .at .0) (c .end .0) (sym e ∙ q), ← o, y)) ∙ inv
+    all-forbidden y = sym (rw (run-more s (c .at .0) (c .end .0) (sym e ∙ q), ← o, y)) ∙ inv
 
-    pub walk-next : t ≡ false → (sparse′ : Bool) (last′ : Body) → sparse′ ≡ marks signature sparse → last′ ≡ latest wanted signature start stop last
-        → walkFrom wanted sparse′ last′ (runAt s (next .at .0) (next .end .0)) ≡ r
+    pub all-next : t ≡ false → (sparse′ : Bool) (last′ : Bodies) → sparse′ ≡ marks signature sparse → last′ ≡ latestOf signature start stop last
+        → allFrom sparse′ last′ (runAt s (next .at .0) (next .end .0)) ≡ r
     unfolding judged sparseIn lastWhere
-    walk-next y sparse′ last′ a b =
+    all-next y sparse′ last′ a b =
         let f : Met s (c .at .0) (c .end .0) signature start stop next = met s (c .at .0) (c .end .0) (sym e ∙ q) in
         rw (f .place, f .bound, a, b) (sym (rw (run-more s (c .at .0) (c .end .0) (sym e ∙ q), ← o, y)) ∙ inv)
 
@@ -162,7 +164,10 @@ module _ (wanted signature : ℕ) (start stop : FileAt) (last : Body) where
   pub latest-before : (signature ≡ wanted → ⊥) → last ≡ latest wanted signature start stop last
   latest-before w = sym (rw (ne-eqb signature wanted w))
 
-pub ruleset walks = (step-less, walk-done, walk-broken, walk-forbidden, walk-next, mandatory-under, mandatory-over, mandatory-is, forbidden-sdir, forbidden-other, forbidden-not, marks-sdir, marks-other, latest-this, latest-before)
+pub latest-bodies : (signature : ℕ) (start stop : FileAt) (last : Bodies) (tree : Body) → tree ≡ latest TREE signature start stop (last .tree) → record { tree = tree } ≡ latestOf signature start stop last
+latest-bodies signature start stop last tree e = λ i. record { tree = e i }
+
+pub ruleset walks = (latest-bodies, step-less, all-done, all-broken, all-forbidden, all-next, mandatory-under, mandatory-over, mandatory-is, forbidden-sdir, forbidden-other, forbidden-not, marks-sdir, marks-other, latest-this, latest-before)
 
 -- ---- IEOT
 
@@ -257,7 +262,7 @@ pub ruleset tables = (table-beyond, table-before, table-short, table-other, tabl
 abbrev pub leftOver : List ℕ → Digest → Body → Run → Prior
 leftOver s d last r = record { sum = finished (fedAll d (headersOf s (r .items))); last = lastWhere (λ f. true) last (r .items) }
 
-pub prior-start : (s : List ℕ) (from end : ℕ) (d : Digest) → d ≡ digestAfter [] → leftOver s d Missing (runAt s from end) ≡ priorAt s from end
+pub prior-start : (s : List ℕ) (from end : ℕ) (d : Digest) → d ≡ digestAfter [] → leftOver s d Missing (runAt s from end) ≡ priorAt sha1Kind s from end
 unfolding priorAt
 prior-start s from end d e = rw (e, pieces-finish)
 
@@ -298,71 +303,71 @@ module _ (s : List ℕ) (c : Cursor) (x : Step) (e : x ≡ stepAt s (c .at .0) (
         let l : start .0 - c .at .0 ≡ 8 = omega (arith, f .body) in
         rw (f .place, f .bound, y, l) (sym (rw (run-more s (c .at .0) (c .end .0) (sym e ∙ q))) ∙ inv)
 
-sum-twenty : (s : List ℕ) (offset start : ℕ) (p : Prior) → p ≡ priorAt s offset start → length (p .sum) ≡ idSize
+sum-length : (s : List ℕ) (offset start : ℕ) (p : Prior) → p ≡ priorAt sha1Kind s offset start → length (p .sum) ≡ idSize
 unfolding priorAt
-sum-twenty s offset start p e = ap (λ (x : Prior). length (x .sum)) e ∙ length-sha1 (flatten (headersOf s (runAt s offset start .items)))
+sum-length s offset start p e = ap (λ (x : Prior). length (x .sum)) e ∙ length-sha1 (flatten (headersOf s (runAt s offset start .items)))
 
 -- EOIE has the hash of the extensions in front of it, or not, as t says
-module _ (s : List ℕ) (offset start : ℕ) (p : Prior) (e : p ≡ priorAt s offset start) where
+module _ (s : List ℕ) (offset start : ℕ) (p : Prior) (e : p ≡ priorAt sha1Kind s offset start) where
   pub sum-room : idSize ≤ length (p .sum)
-  sum-room = omega (arith, sum-twenty s offset start p e)
+  sum-room = omega (arith, sum-length s offset start p e)
 
   module _ (t : Bool) (y : t ≡ sameBytes (take idSize (drop 0 (p .sum))) (take idSize (drop (start + 12) s))) where
     told : t ≡ sameBytes (sha1 (flatten (headersOf s (runAt s offset start .items)))) (take idSize (drop (start + 12) s))
     unfolding priorAt
     told =
         y ∙ ap (λ (l : List ℕ). sameBytes l (take idSize (drop (start + 12) s)))
-        (take-all idSize (p .sum) (omega (arith, sum-twenty s offset start p e)) ∙ ap (λ (x : Prior). x .sum) e)
+        (take-all idSize (p .sum) (omega (arith, sum-length s offset start p e)) ∙ ap (λ (x : Prior). x .sum) e)
 
     ends : p .last ≡ lastBody (runAt s offset start .items)
     unfolding priorAt
     ends = ap (λ (x : Prior). x .last) e
 
-    pub verified-other : t ≡ false → Nothing ≡ verifiedAt idSize sha1 s start offset
+    pub verified-other : t ≡ false → Nothing ≡ verifiedAt sha1Kind s start offset
     unfolding verifiedAt
     verified-other z = sym (rw (← told, z))
 
     module _ (z : t ≡ true) where
-      pub verified-none : p .last ≡ Missing → Nothing ≡ verifiedAt idSize sha1 s start offset
+      pub verified-none : p .last ≡ Missing → Nothing ≡ verifiedAt sha1Kind s start offset
       unfolding verifiedAt
       verified-none q = sym (rw (← told, z, ← ends, q))
 
       module _ (first stop : FileAt) (q : p .last ≡ Lies first stop) where
-        pub verified-is : stop .0 ≡ start → To (fileAt offset) ≡ verifiedAt idSize sha1 s start offset
+        pub verified-is : stop .0 ≡ start → To (fileAt offset) ≡ verifiedAt sha1Kind s start offset
         unfolding verifiedAt
         verified-is w = sym (rw (← told, z, ← ends, q, eq-eqb (stop .0) start w))
 
-        pub verified-apart : (stop .0 ≡ start → ⊥) → Nothing ≡ verifiedAt idSize sha1 s start offset
+        pub verified-apart : (stop .0 ≡ start → ⊥) → Nothing ≡ verifiedAt sha1Kind s start offset
         unfolding verifiedAt
         verified-apart w = sym (rw (← told, z, ← ends, q, ne-eqb (stop .0) start w))
 
 -- the EOIE in front of the trailer
 module _ (s : List ℕ) where
-  pub offset-short : length s < 52 → Nothing ≡ offsetIn idSize sha1 s
+  pub offset-short : length s < 52 → Nothing ≡ offsetIn sha1Kind s
   unfolding offsetIn
   offset-short h = sym (rw (lt-ltb (length s) 52 h))
 
   module _ (h : 52 ≤ length s) (a : ℕ) (ea : a ≡ beAt 4 s (length s - 52)) where
-    pub offset-other : (a ≡ EOIE → ⊥) → Nothing ≡ offsetIn idSize sha1 s
+    pub offset-other : (a ≡ EOIE → ⊥) → Nothing ≡ offsetIn sha1Kind s
     unfolding offsetIn offsetAt
     offset-other w = sym (rw (le-ltb (length s) 52 h, ← ea, ne-eqb a EOIE w))
 
     module _ (wa : a ≡ EOIE) (b : ℕ) (eb : b ≡ beAt 4 s (length s - 52 + 4)) where
-      pub offset-size : (b ≡ 24 → ⊥) → Nothing ≡ offsetIn idSize sha1 s
+      pub offset-size : (b ≡ 24 → ⊥) → Nothing ≡ offsetIn sha1Kind s
       unfolding offsetIn offsetAt
       offset-size w = sym (rw (le-ltb (length s) 52 h, ← ea, eq-eqb a EOIE wa, ← eb, ne-eqb b 24 w))
 
       module _ (wb : b ≡ 24) (o : ℕ) (eo : o ≡ beAt 4 s (length s - 52 + 8)) where
-        pub offset-under : o < 12 → Nothing ≡ offsetIn idSize sha1 s
+        pub offset-under : o < 12 → Nothing ≡ offsetIn sha1Kind s
         unfolding offsetIn offsetAt
         offset-under w = sym (rw (le-ltb (length s) 52 h, ← ea, eq-eqb a EOIE wa, ← eb, eq-eqb b 24 wb, ← eo, lt-ltb o 12 w))
 
         module _ (wo : 12 ≤ o) where
-          pub offset-over : length s - 52 < o → Nothing ≡ offsetIn idSize sha1 s
+          pub offset-over : length s - 52 < o → Nothing ≡ offsetIn sha1Kind s
           unfolding offsetIn offsetAt
           offset-over w = sym (rw (le-ltb (length s) 52 h, ← ea, eq-eqb a EOIE wa, ← eb, eq-eqb b 24 wb, ← eo, le-ltb o 12 wo, lt-ltb (length s - 52) o w))
 
-          pub offset-is : o ≤ length s - 52 → (r : Told) → r ≡ verifiedAt idSize sha1 s (length s - 52) o → r ≡ offsetIn idSize sha1 s
+          pub offset-is : o ≤ length s - 52 → (r : Told) → r ≡ verifiedAt sha1Kind s (length s - 52) o → r ≡ offsetIn sha1Kind s
           unfolding offsetIn offsetAt
           offset-is w r q = q ∙ sym (rw (le-ltb (length s) 52 h, ← ea, eq-eqb a EOIE wa, ← eb, eq-eqb b 24 wb, ← eo, le-ltb o 12 wo, le-ltb (length s - 52) o w))
 

@@ -8,12 +8,13 @@ use Rattle.laws.specs.Pick.{pick}
 use Rattle.wire.specs.Places.{fileAt}
 use Rattle.wire.specs.declared.FileAt.{FileAt}
 use Rattle.refusal.specs.Refusal as refusal
-use Rattle.extension.specs.Signatures.{sdir, firstByte}
+use Rattle.extension.specs.Signatures.{TREE, sdir, firstByte}
 use Rattle.extension.specs.Iter.{Found, Ending, filled, stray, Run, runAt, ofSignature, lastWhere}
 use Rattle.extension.specs.declared.iter.Body.{Body}
 use Rattle.extension.specs.declared.iter.Body.the-variants.{Lies, Missing}
-use Rattle.extension.specs.declared.decode.Walked.{Walked}
-use Rattle.extension.specs.declared.decode.Walked.the-variants.{Filled, NotFilled, Mandatory}
+use Rattle.extension.specs.declared.decode.Bodies.{Bodies}
+use Rattle.extension.specs.declared.decode.Space.{Space}
+use Rattle.extension.specs.declared.decode.Space.the-variants.{Filled, NotFilled, Mandatory}
 
 -- an extension is mandatory when its signature's first byte lies in 97 to 122
 abbrev pub mandatory : ℕ → Bool
@@ -34,32 +35,42 @@ marks signature sparse = pick (eqb signature sdir) true sparse
 abbrev pub latest : ℕ → ℕ → FileAt → FileAt → Body → Body
 latest wanted signature start stop last = pick (eqb signature wanted) (Lies start stop) last
 
+-- the bodies that the reader goes into, each the last of its signature: before all extensions, after one more, and after a list of them. A further signature is a further field
+abbrev pub noBodies : Bodies
+noBodies = record { tree = Missing }
+
+abbrev pub latestOf : ℕ → FileAt → FileAt → Bodies → Bodies
+latestOf signature start stop last = record { tree = latest TREE signature start stop (last .tree) }
+
+abbrev pub bodiesIn : Bodies → List Found → Bodies
+bodiesIn last fs = record { tree = lastWhere (ofSignature TREE) (last .tree) fs }
+
 -- whether an `sdir` is among the extensions, or the index was marked before
 unfoldable pub sparseIn : Bool → List Found → Bool
 sparseIn sparse [] = sparse
 sparseIn sparse (f ∷ fs) = sparseIn (marks (f .signature) sparse) fs
 
 -- the first fault in file order; where there is none, what is given
-unfoldable pub judged : List Found → Ending → Walked → Walked
+unfoldable pub judged : List Found → Ending → Space → Space
 judged [] filled good = good
 judged [] (stray place) good = NotFilled (fileAt place)
 judged (f ∷ fs) ending good = pick (isForbidden f) (Mandatory (f .signature)) (judged fs ending good)
 
--- what a run comes to, after a mark and a last body that were met before it
-abbrev pub walkFrom : ℕ → Bool → Body → Run → Walked
-walkFrom wanted sparse last r = judged (r .items) (r .ending) (Filled (sparseIn sparse (r .items)) (lastWhere (ofSignature wanted) last (r .items)))
+-- what a run comes to, after a mark and bodies that were met before it
+abbrev pub allFrom : Bool → Bodies → Run → Space
+allFrom sparse last r = judged (r .items) (r .ending) (Filled (sparseIn sparse (r .items)) (bodiesIn last (r .items)))
 
--- the space from `from` up to `end`: the first fault, or the mark and the last extension of the wanted signature
-unfoldable pub walkAt : List ℕ → ℕ → ℕ → ℕ → Walked
-walkAt s from end wanted = walkFrom wanted false Missing (runAt s from end)
+-- the space from `from` up to `end`: the first fault, or the mark and the bodies that the reader goes into
+unfoldable pub allAt : List ℕ → ℕ → ℕ → Space
+allAt s from end = allFrom false noBodies (runAt s from end)
 
 -- 01's number of an answer, 0 where nothing is refused, and what a refusal carries
-abbrev pub numberOf : Walked → ℕ
-numberOf (Filled sparse body) = 0
+abbrev pub numberOf : Space → ℕ
+numberOf (Filled sparse bodies) = 0
 numberOf (NotFilled place) = refusal.not-filled
 numberOf (Mandatory signature) = refusal.mandatory
 
-abbrev pub carriedOf : Walked → List ℕ
-carriedOf (Filled sparse body) = []
+abbrev pub carriedOf : Space → List ℕ
+carriedOf (Filled sparse bodies) = []
 carriedOf (NotFilled place) = place .0 ∷ []
 carriedOf (Mandatory signature) = signature ∷ []

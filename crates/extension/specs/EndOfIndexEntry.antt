@@ -1,5 +1,5 @@
 -- EOIE (gitformat-index, "End of Index Entry"; 01, "Extensions": "the 32 bytes before the trailer: signature, size 24, offset, SHA-1 of the signatures and sizes of the
--- extensions from that offset"). h is the id's length, which is the hash's and the trailer's, and `hash` the hash. Assumes nothing.
+-- extensions from that offset"), over the kind, or over h where an id's length is all that is needed. Assumes nothing.
 use Prim.Native.Nat.{ℕ, _+_, _-_}
 use mathlib.Core.Bool.{true}
 use mathlib.Core.List.{List, [], _∷_, flatten}
@@ -9,26 +9,15 @@ use Rattle.laws.specs.Pick.{pick}
 use Rattle.slices.specs.Bytes.{sameBytes}
 use Rattle.wire.specs.BigEndian.{beAt}
 use Rattle.wire.specs.Places.{fileAt}
-use Rattle.sha1.specs.Sha1.{sha1}
-use Rattle.format.specs.Format.{headerSize}
-use Rattle.extension.specs.Signatures.{EOIE, extensionHeaderSize}
+use Rattle.format.specs.Format.{headerSize, extensionHeaderSize, offsetSize, eoieSize, eoieWholeSize}
+use Rattle.kind.specs.Kind.{Kind}
+use Rattle.extension.specs.Signatures.{EOIE}
 use Rattle.extension.specs.Iter.{Found, runAt, lastWhere, onBody}
 use Rattle.extension.specs.declared.iter.Body.{Body}
 use Rattle.extension.specs.declared.iter.Body.the-variants.{Missing}
 use Rattle.extension.specs.declared.end_of_index_entry.Prior.{Prior}
 use Rattle.extension.specs.declared.end_of_index_entry.Told.{Told}
 use Rattle.extension.specs.declared.end_of_index_entry.Told.the-variants.{Offset, Nothing}
-
--- how many bytes an offset takes
-abbrev pub offset-size : ℕ
-offset-size = 4
-
--- how long EOIE's body is, and how long it is with its header
-abbrev pub body-size : ℕ → ℕ
-body-size h = offset-size + h
-
-abbrev pub whole-size : ℕ → ℕ
-whole-size h = extensionHeaderSize + body-size h
 
 -- the headers of extensions, which are their signatures and sizes
 unfoldable pub headersOf : List ℕ → List Found → List (List ℕ)
@@ -39,28 +28,28 @@ headersOf s (f ∷ fs) = take extensionHeaderSize (drop (f .place) s) ∷ header
 abbrev pub lastBody : List Found → Body
 lastBody fs = lastWhere (λ f. true) Missing fs
 
-unfoldable pub priorAt : List ℕ → ℕ → ℕ → Prior
-priorAt s from end = record { sum = sha1 (flatten (headersOf s (runAt s from end .items))); last = lastBody (runAt s from end .items) }
+unfoldable pub priorAt : Kind → List ℕ → ℕ → ℕ → Prior
+priorAt kind s from end = record { sum = kind .hash (flatten (headersOf s (runAt s from end .items))); last = lastBody (runAt s from end .items) }
 
 -- the offset, where the extensions from it up to `start` have the hash that EOIE has, there are some, and the last of them ends at `start`
-unfoldable pub verifiedAt : ℕ → (List ℕ → List ℕ) → List ℕ → ℕ → ℕ → Told
-verifiedAt h hash s start offset =
-    pick (sameBytes (hash (flatten (headersOf s (runAt s offset start .items)))) (take h (drop (start + (extensionHeaderSize + offset-size)) s)))
+unfoldable pub verifiedAt : Kind → List ℕ → ℕ → ℕ → Told
+verifiedAt kind s start offset =
+    pick (sameBytes (kind .hash (flatten (headersOf s (runAt s offset start .items)))) (take (kind .id) (drop (start + (extensionHeaderSize + offsetSize)) s)))
     (onBody (lastBody (runAt s offset start .items)) Nothing
     (λ first behind. pick (eqb behind start) (Offset (fileAt offset)) Nothing))
     Nothing
 
 -- an EOIE that begins at `start`
-unfoldable pub offsetAt : ℕ → (List ℕ → List ℕ) → List ℕ → ℕ → Told
-offsetAt h hash s start =
+unfoldable pub offsetAt : Kind → List ℕ → ℕ → Told
+offsetAt kind s start =
     pick (eqb (beAt 4 s start) EOIE)
-    (pick (eqb (beAt 4 s (start + 4)) (body-size h))
+    (pick (eqb (beAt 4 s (start + 4)) (eoieSize (kind .id)))
     (pick (ltb (beAt 4 s (start + 8)) headerSize) Nothing
     (pick (ltb start (beAt 4 s (start + 8))) Nothing
-    (verifiedAt h hash s start (beAt 4 s (start + 8)))))
+    (verifiedAt kind s start (beAt 4 s (start + 8)))))
     Nothing)
     Nothing
 
 -- the EOIE in front of the trailer
-unfoldable pub offsetIn : ℕ → (List ℕ → List ℕ) → List ℕ → Told
-offsetIn h hash s = pick (ltb (length s) (whole-size h + h)) Nothing (offsetAt h hash s (length s - (whole-size h + h)))
+unfoldable pub offsetIn : Kind → List ℕ → Told
+offsetIn kind s = pick (ltb (length s) (eoieWholeSize (kind .id) + kind .id)) Nothing (offsetAt kind s (length s - (eoieWholeSize (kind .id) + kind .id)))

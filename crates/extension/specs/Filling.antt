@@ -14,14 +14,16 @@ use Rattle.laws.specs.Tests.{Same, same, differs, same?, lt-or-ge}
 use Rattle.wire.specs.BigEndian.{beAt}
 use Rattle.wire.specs.Places.{fileAt}
 use Rattle.wire.specs.declared.FileAt.{FileAt}
-use Rattle.extension.specs.Signatures.{sdir, extensionHeaderSize}
-use Rattle.extension.specs.Iter.{Found, Ending, filled, stray, runAt, bodyOf, ofSignature, lastWhere, lastOf}
-use Rattle.extension.specs.Decode.{isForbidden, marks, sparseIn, judged, walkAt}
+use Rattle.format.specs.Format.{extensionHeaderSize}
+use Rattle.extension.specs.Signatures.{TREE, sdir}
+use Rattle.extension.specs.Iter.{Found, Ending, filled, stray, runAt, bodyOf, ofSignature, lastWhere}
+use Rattle.extension.specs.Decode.{isForbidden, marks, sparseIn, judged, noBodies, bodiesIn, allAt}
 use Rattle.extension.specs.Theorems.{Chain, chain-stray, chain-more, run-chain, chain-run}
 use Rattle.extension.specs.declared.iter.Body.{Body}
 use Rattle.extension.specs.declared.iter.Body.the-variants.{Missing}
-use Rattle.extension.specs.declared.decode.Walked.{Walked}
-use Rattle.extension.specs.declared.decode.Walked.the-variants.{Filled, NotFilled, Mandatory}
+use Rattle.extension.specs.declared.decode.Bodies.{Bodies}
+use Rattle.extension.specs.declared.decode.Space.{Space}
+use Rattle.extension.specs.declared.decode.Space.the-variants.{Filled, NotFilled, Mandatory}
 
 -- ---- the last of a signature
 
@@ -78,6 +80,13 @@ sparse-says b (f ∷ fs) = by (λ c. sparse-says c fs) (same? (f .signature) sdi
     by ih (same e) = behind e (ih true)
     by ih (differs d) = over d (ih b)
 
+-- the bodies: each is the last of its signature
+pub record SaysBodies (fs : List Found) (bodies : Bodies) : Type 0 where
+  pub tree : SaysLast TREE Missing fs (bodies .tree)
+
+pub bodies-say : (fs : List Found) → SaysBodies fs (bodiesIn noBodies fs)
+bodies-say fs = record { tree = last-says TREE Missing fs }
+
 -- ---- the first fault
 
 pub data NoneForbidden : List Found → Type 0 where
@@ -89,18 +98,18 @@ pub data FirstForbidden : List Found → ℕ → Type 0 where
   refused-later : {f : Found} {fs : List Found} {signature : ℕ} → isForbidden f ≡ false → FirstForbidden fs signature → FirstForbidden (f ∷ fs) signature
 
 -- what is answered of a list and the run's end, where `good` is to be answered if there is no fault
-pub data SaysJudged (good : Walked) (fs : List Found) : Ending → Walked → Type 0 where
+pub data SaysJudged (good : Space) (fs : List Found) : Ending → Space → Type 0 where
   no-fault : NoneForbidden fs → SaysJudged good fs filled good
   fault-7 : {place : ℕ} → NoneForbidden fs → SaysJudged good fs (stray place) (NotFilled (fileAt place))
   fault-8 : {e : Ending} {signature : ℕ} → FirstForbidden fs signature → SaysJudged good fs e (Mandatory signature)
 
-pub judged-says : (good : Walked) (fs : List Found) (e : Ending) → SaysJudged good fs e (judged fs e good)
+pub judged-says : (good : Space) (fs : List Found) (e : Ending) → SaysJudged good fs e (judged fs e good)
 unfolding judged
 judged-says good [] filled = no-fault all-allowed
 judged-says good [] (stray place) = fault-7 all-allowed
 judged-says good (f ∷ fs) e = by (judged-says good fs e) (isForbidden f) refl
   where
-    over : isForbidden f ≡ false → {d : Ending} {w : Walked} → SaysJudged good fs d w → SaysJudged good (f ∷ fs) d w
+    over : isForbidden f ≡ false → {d : Ending} {w : Space} → SaysJudged good fs d w → SaysJudged good (f ∷ fs) d w
     over q (no-fault n) = no-fault (allowed q n)
     over q (fault-7 n) = fault-7 (allowed q n)
     over q (fault-8 n) = fault-8 (refused-later q n)
@@ -120,23 +129,22 @@ stray-inside {s} {end} {at} {p} (chain-more {f = f} w c) h i =
     (omega (arith, k .0), k .1)
 
 -- all that is said of a space
-pub data SaysWalk (s : List ℕ) (from end wanted : ℕ) : Walked → Type 0 where
+pub data SaysAll (s : List ℕ) (from end : ℕ) : Space → Type 0 where
   -- extensions fill it exactly, none of them forbidden
-  is-filled : {fs : List Found} {sparse : Bool} {body : Body} → Chain s end from fs filled → NoneForbidden fs → SaysSparse false fs sparse → SaysLast wanted Missing fs body
-      → SaysWalk s from end wanted (Filled sparse body)
+  is-filled : {fs : List Found} {sparse : Bool} {bodies : Bodies} → Chain s end from fs filled → NoneForbidden fs → SaysSparse false fs sparse → SaysBodies fs bodies → SaysAll s from end (Filled sparse bodies)
   -- none of them forbidden, and none stands at a place before the end
-  is-not-filled : {fs : List Found} {place : ℕ} → Chain s end from fs (stray place) → NoneForbidden fs → SaysWalk s from end wanted (NotFilled (fileAt place))
+  is-not-filled : {fs : List Found} {place : ℕ} → Chain s end from fs (stray place) → NoneForbidden fs → SaysAll s from end (NotFilled (fileAt place))
   -- one that is forbidden, and none before it is; whatever stands behind it
-  is-mandatory : {fs : List Found} {e : Ending} {signature : ℕ} → Chain s end from fs e → FirstForbidden fs signature → SaysWalk s from end wanted (Mandatory signature)
+  is-mandatory : {fs : List Found} {e : Ending} {signature : ℕ} → Chain s end from fs e → FirstForbidden fs signature → SaysAll s from end (Mandatory signature)
 
-pub walk-says : (s : List ℕ) (from end wanted : ℕ) → SaysWalk s from end wanted (walkAt s from end wanted)
-unfolding walkAt
-walk-says s from end wanted =
+pub all-says : (s : List ℕ) (from end : ℕ) → SaysAll s from end (allAt s from end)
+unfolding allAt
+all-says s from end =
     by (runAt s from end .items) (run-chain s from end)
-    (judged-says (Filled (sparseIn false (runAt s from end .items)) (lastOf wanted (runAt s from end .items))) (runAt s from end .items) (runAt s from end .ending))
+    (judged-says (Filled (sparseIn false (runAt s from end .items)) (bodiesIn noBodies (runAt s from end .items))) (runAt s from end .items) (runAt s from end .ending))
   where
-    by : (fs : List Found) {e : Ending} {w : Walked} → Chain s end from fs e → SaysJudged (Filled (sparseIn false fs) (lastOf wanted fs)) fs e w → SaysWalk s from end wanted w
-    by fs c (no-fault n) = is-filled c n (sparse-says false fs) (last-says wanted Missing fs)
+    by : (fs : List Found) {e : Ending} {w : Space} → Chain s end from fs e → SaysJudged (Filled (sparseIn false fs) (bodiesIn noBodies fs)) fs e w → SaysAll s from end w
+    by fs c (no-fault n) = is-filled c n (sparse-says false fs) (bodies-say fs)
     by fs c (fault-7 n) = is-not-filled c n
     by fs c (fault-8 n) = is-mandatory c n
 
@@ -156,6 +164,9 @@ pub last-only : {wanted : ℕ} {b c : Body} {fs : List Found} → SaysLast wante
 last-only {b = b} (as-before n) = none-last b n
 last-only {b = b} (the-last l) = signed-last b l
 
+bodies-only : {bodies : Bodies} {fs : List Found} → SaysBodies fs bodies → bodiesIn noBodies fs ≡ bodies
+bodies-only b = λ i. record { tree = last-only (b .tree) i }
+
 none-sparse : {fs : List Found} (b : Bool) → NoneSigned sdir fs → sparseIn b fs ≡ b
 unfolding sparseIn
 none-sparse b none-left = refl
@@ -170,40 +181,40 @@ pub sparse-only : {b c : Bool} {fs : List Found} → SaysSparse b fs c → spars
 sparse-only {b} (marked l) = signed-sparse b l
 sparse-only {b} (unmarked n) = none-sparse b n
 
-judged-none : {fs : List Found} (good : Walked) → NoneForbidden fs → judged fs filled good ≡ good
+judged-none : {fs : List Found} (good : Space) → NoneForbidden fs → judged fs filled good ≡ good
 unfolding judged
 judged-none good all-allowed = refl
 judged-none good (allowed q n) = rw q (judged-none good n)
 
-judged-stops : {fs : List Found} (place : ℕ) (good : Walked) → NoneForbidden fs → judged fs (stray place) good ≡ NotFilled (fileAt place)
+judged-stops : {fs : List Found} (place : ℕ) (good : Space) → NoneForbidden fs → judged fs (stray place) good ≡ NotFilled (fileAt place)
 unfolding judged
 judged-stops place good all-allowed = refl
 judged-stops place good (allowed q n) = rw q (judged-stops place good n)
 
-judged-first : {fs : List Found} {signature : ℕ} (e : Ending) (good : Walked) → FirstForbidden fs signature → judged fs e good ≡ Mandatory signature
+judged-first : {fs : List Found} {signature : ℕ} (e : Ending) (good : Space) → FirstForbidden fs signature → judged fs e good ≡ Mandatory signature
 unfolding judged
 judged-first e good (refused-here q) = rw q
 judged-first e good (refused-later q n) = rw q (judged-first e good n)
 
-pub walk-only : {s : List ℕ} {from end wanted : ℕ} {w : Walked} → SaysWalk s from end wanted w → walkAt s from end wanted ≡ w
-unfolding walkAt
-walk-only {wanted = wanted} (is-filled {fs = fs} {sparse = sparse} {body = body} c n m l) =
-    rw (chain-run c, judged-none (Filled (sparseIn false fs) (lastOf wanted fs)) n, sparse-only m, last-only l)
-walk-only {wanted = wanted} (is-not-filled {fs = fs} {place = place} c n) = rw (chain-run c, judged-stops place (Filled (sparseIn false fs) (lastOf wanted fs)) n)
-walk-only {wanted = wanted} (is-mandatory {fs = fs} {e = e} c n) = rw (chain-run c, judged-first e (Filled (sparseIn false fs) (lastOf wanted fs)) n)
+pub all-only : {s : List ℕ} {from end : ℕ} {w : Space} → SaysAll s from end w → allAt s from end ≡ w
+unfolding allAt
+all-only (is-filled {fs = fs} {sparse = sparse} {bodies = bodies} c n m l) =
+    rw (chain-run c, judged-none (Filled (sparseIn false fs) (bodiesIn noBodies fs)) n, sparse-only m) (ap (λ (b : Bodies). Filled sparse b) (bodies-only l))
+all-only (is-not-filled {fs = fs} {place = place} c n) = rw (chain-run c, judged-stops place (Filled (sparseIn false fs) (bodiesIn noBodies fs)) n)
+all-only (is-mandatory {fs = fs} {e = e} c n) = rw (chain-run c, judged-first e (Filled (sparseIn false fs) (bodiesIn noBodies fs)) n)
 
 -- success means that the space is exactly filled
-pub walk-fills : (s : List ℕ) (from end wanted : ℕ) (sparse : Bool) (body : Body) → walkAt s from end wanted ≡ Filled sparse body → (fs : List Found) × Chain s end from fs filled × NoneForbidden fs
-walk-fills s from end wanted sparse body e = by (subst (SaysWalk s from end wanted) e (walk-says s from end wanted))
+pub all-fills : (s : List ℕ) (from end : ℕ) (sparse : Bool) (bodies : Bodies) → allAt s from end ≡ Filled sparse bodies → (fs : List Found) × Chain s end from fs filled × NoneForbidden fs
+all-fills s from end sparse bodies e = by (subst (SaysAll s from end) e (all-says s from end))
   where
-    by : SaysWalk s from end wanted (Filled sparse body) → (fs : List Found) × Chain s end from fs filled × NoneForbidden fs
+    by : SaysAll s from end (Filled sparse bodies) → (fs : List Found) × Chain s end from fs filled × NoneForbidden fs
     by (is-filled {fs = fs} c n m l) = (fs, c, n)
 
 -- 7's offset lies in the space
-pub fault-inside : (s : List ℕ) (from end wanted : ℕ) (place : FileAt) → walkAt s from end wanted ≡ NotFilled place → from ≤ end → end ≤ length s → (from ≤ place .0) × (place .0 < end)
-fault-inside s from end wanted place e h i = by (subst (SaysWalk s from end wanted) e (walk-says s from end wanted)) refl
+pub fault-inside : (s : List ℕ) (from end : ℕ) (place : FileAt) → allAt s from end ≡ NotFilled place → from ≤ end → end ≤ length s → (from ≤ place .0) × (place .0 < end)
+fault-inside s from end place e h i = by (subst (SaysAll s from end) e (all-says s from end)) refl
   where
-    by : {w : Walked} → SaysWalk s from end wanted w → w ≡ NotFilled place → (from ≤ place .0) × (place .0 < end)
+    by : {w : Space} → SaysAll s from end w → w ≡ NotFilled place → (from ≤ place .0) × (place .0 < end)
     by (is-not-filled {place = p} c n) q = let r : fileAt p ≡ place = cc in subst (λ (x : FileAt). (from ≤ x .0) × (x .0 < end)) r (stray-inside c h i)
     by (is-filled c n m l) q = let z : _≡_ {A = ℕ} 0 1 = cc in absurd (omega arith)
     by (is-mandatory c n) q = let z : _≡_ {A = ℕ} 0 1 = cc in absurd (omega arith)

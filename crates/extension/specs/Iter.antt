@@ -9,7 +9,7 @@ use Rattle.laws.specs.Pick.{pick}
 use Rattle.wire.specs.BigEndian.{beAt}
 use Rattle.wire.specs.Places.{fileAt}
 use Rattle.wire.specs.declared.FileAt.{FileAt}
-use Rattle.extension.specs.Signatures.{extensionHeaderSize}
+use Rattle.format.specs.Format.{extensionHeaderSize}
 use Rattle.extension.specs.declared.iter.Cursor.{Cursor}
 use Rattle.extension.specs.declared.iter.Step.{Step}
 use Rattle.extension.specs.declared.iter.Step.the-variants.{Extension, Done, Broken}

@@ -8,14 +8,16 @@ use Rattle.slices.specs.Bytes.{sameBytes}
 use Rattle.wire.specs.BigEndian.{beAt, bytesOf}
 use Rattle.wire.specs.Places.{fileAt}
 use Rattle.sha1.specs.Sha1.{rotl, ch, parity, maj, mixOf, constOf, zerosOf, padding, initial, wordsOf, nextWord, extend, schedule, turn, rounds, added, compress, hashBlocks, digestOf, sha1}
+use Rattle.format.specs.Format.{idSize, headerSize}
+use Rattle.kind.specs.Sha1.{sha1Kind}
 use Rattle.extension.specs.Signatures.{TREE, sdir, IEOT, EOIE}
 use Rattle.extension.specs.Iter.{stepAt, runBy, runAt, firstWhere, lastWhere, firstAt}
-use Rattle.extension.specs.Decode.{mandatory, forbidden, sparseIn, judged, walkAt, numberOf, carriedOf}
+use Rattle.extension.specs.Decode.{mandatory, forbidden, sparseIn, judged, allAt, numberOf, carriedOf}
 use Rattle.extension.specs.IndexEntryOffsetTable.{tableAt, pairIn, tableIn, tableFrom, pairFrom}
 use Rattle.extension.specs.EndOfIndexEntry.{headersOf, verifiedAt, offsetAt, offsetIn}
 use Rattle.extension.specs.declared.iter.Body.the-variants.{Lies, Missing}
-use Rattle.extension.specs.declared.decode.Walked.{Walked}
-use Rattle.extension.specs.declared.decode.Walked.the-variants.{Filled, NotFilled, Mandatory}
+use Rattle.extension.specs.declared.decode.Space.{Space}
+use Rattle.extension.specs.declared.decode.Space.the-variants.{Filled, NotFilled, Mandatory}
 use Rattle.extension.specs.declared.index_entry_offset_table.Table.{Table}
 use Rattle.extension.specs.declared.index_entry_offset_table.Table.the-variants.{Pairs, NoTable}
 use Rattle.extension.specs.declared.index_entry_offset_table.Offset.{Offset}
@@ -38,18 +40,18 @@ ext signature body = sized signature (length body) body
 
 -- a file whose extensions begin at 12, with a trailer of zeros
 pub fileOf : List ℕ → List ℕ
-fileOf space = replicate 12 0 ++ space ++ replicate 20 0
+fileOf space = replicate headerSize 0 ++ space ++ replicate idSize 0
 
-pub walked : List ℕ → Walked
-walked space = walkAt (fileOf space) 12 (length (fileOf space) - 20) TREE
+pub walked : List ℕ → Space
+walked space = allAt (fileOf space) headerSize (length (fileOf space) - idSize)
 
 -- ---- the space behind the entries
 
-pub record Space : Type 0 where
+pub record Spaces : Type 0 where
   -- nothing at all
-  pub empty : walked [] ≡ Filled false Missing
+  pub empty : walked [] ≡ Filled false (record { tree = Missing })
   -- two TREEs, an `sdir` between them and an unknown optional one behind: sparse, and the last TREE counts
-  pub several : walked (ext TREE (1 ∷ 2 ∷ []) ++ ext sdir [] ++ ext TREE (3 ∷ []) ++ ext ABCD []) ≡ Filled true (Lies (fileAt 38) (fileAt 39))
+  pub several : walked (ext TREE (1 ∷ 2 ∷ []) ++ ext sdir [] ++ ext TREE (3 ∷ []) ++ ext ABCD []) ≡ Filled true (record { tree = Lies (fileAt 38) (fileAt 39) })
   -- a size that runs one byte into the trailer
   pub overrun : walked (sized ABCD 1 []) ≡ NotFilled (fileAt 12)
   -- one stray byte, behind nothing and behind an extension
@@ -62,8 +64,8 @@ pub record Space : Type 0 where
   pub seven-first : walked (sized link 1 []) ≡ NotFilled (fileAt 12)
   pub eight-first : walked (ext link [] ++ (120 ∷ [])) ≡ Mandatory link
 
-pub space : Space
-unfolding walked fileOf ext sized bytesOf beAt walkAt runAt runBy stepAt judged forbidden sparseIn lastWhere
+pub space : Spaces
+unfolding walked fileOf ext sized bytesOf beAt allAt runAt runBy stepAt judged forbidden sparseIn lastWhere
 space = record { empty = refl; several = refl; overrun = refl; stray-byte = refl; stray-behind = refl; linked = refl; full-sdir = refl; seven-first = refl; eight-first = refl }
 
 -- the numbers that 01 gives, with what is carried
@@ -74,7 +76,7 @@ pub record Numbers : Type 0 where
   pub signature : carriedOf (walked (ext sdir (0 ∷ []))) ≡ 1935960434 ∷ []
 
 pub numbers : Numbers
-unfolding walked fileOf ext sized bytesOf beAt walkAt runAt runBy stepAt judged forbidden sparseIn lastWhere
+unfolding walked fileOf ext sized bytesOf beAt allAt runAt runBy stepAt judged forbidden sparseIn lastWhere
 numbers = record { seven = refl; place = refl; eight = refl; signature = refl }
 
 -- the letters a to z, and what stands before and behind them
@@ -126,10 +128,10 @@ pub ending : ℕ → List ℕ
 ending offset = fileOf (ext 1094795585 (replicate 56 0) ++ ext EOIE (bytesOf 4 offset ++ hash))
 
 pub record Endings : Type 0 where
-  pub told : offsetIn 20 sha1 (ending 12) ≡ To (fileAt 12)
-  pub low : offsetIn 20 sha1 (ending 11) ≡ Nothing
-  pub high : offsetIn 20 sha1 (ending 77) ≡ Nothing
-  pub short : offsetIn 20 sha1 (replicate 51 0) ≡ Nothing
+  pub told : offsetIn sha1Kind (ending 12) ≡ To (fileAt 12)
+  pub low : offsetIn sha1Kind (ending 11) ≡ Nothing
+  pub high : offsetIn sha1Kind (ending 77) ≡ Nothing
+  pub short : offsetIn sha1Kind (replicate 51 0) ≡ Nothing
 
 pub endings : Endings
 unfolding ending hash fileOf ext sized bytesOf beAt offsetIn offsetAt verifiedAt headersOf flatten lastWhere runAt runBy stepAt sameBytes rotl ch parity maj mixOf constOf zerosOf padding initial wordsOf nextWord extend schedule turn rounds added compress hashBlocks digestOf sha1

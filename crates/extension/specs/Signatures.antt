@@ -1,4 +1,4 @@
--- Numbers of the format that extensions have: signatures, each as one big-endian number, and how long an extension's header is (gitformat-index, "Extensions"; 01, "Extensions").
+-- Numbers of the format that extensions have: signatures, each as one big-endian number (gitformat-index, "Extensions"; 01, "Extensions").
 -- Assumes nothing.
 use Prim.Native.Nat.{ℕ, _/_}
 
@@ -17,10 +17,6 @@ IEOT = 1229279060
 -- "EOIE"
 abbrev pub EOIE : ℕ
 EOIE = 1162824005
-
--- 4 signature bytes and 4 of a size
-abbrev pub extensionHeaderSize : ℕ
-extensionHeaderSize = 8
 
 -- a signature's first byte
 abbrev pub firstByte : ℕ → ℕ

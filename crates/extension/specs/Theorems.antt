@@ -12,7 +12,7 @@ use Rattle.laws.specs.Tests.{Less, less, not-less, less?, Same, same, differs, 
 use Rattle.wire.specs.BigEndian.{beAt}
 use Rattle.wire.specs.Places.{fileAt}
 use Rattle.wire.specs.declared.FileAt.{FileAt}
-use Rattle.extension.specs.Signatures.{extensionHeaderSize}
+use Rattle.format.specs.Format.{extensionHeaderSize}
 use Rattle.extension.specs.Iter.{cursor, extensionAt, stepAt, Found, Ending, filled, stray, ended, cons, onStep, runBy, runAt}
 use Rattle.extension.specs.IndexEntryOffsetTable.{version, version-size, pair-size, tableAt}
 use Rattle.extension.specs.declared.iter.Cursor.{Cursor}

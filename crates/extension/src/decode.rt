@@ -1,17 +1,23 @@
 // All extensions of a file: they fill the space behind the entries exactly, and none is there that must be understood and is not.
 ghost use mathlib.Core.Path.{_≡_};
-ghost use Rattle.extension.specs.Decode.{mandatory, forbidden, marks, latest, walkAt};
+ghost use Rattle.extension.specs.Decode.{mandatory, forbidden, marks, latest, latestOf, allAt};
 use crate::FIRST_BYTE;
 use crate::SDIR;
+use crate::TREE;
 use crate::iter::Body;
 use crate::iter::Cursor;
 use crate::iter::Step;
 use wire::FileAt;
 
-// What the space behind the entries comes to: whether the index is marked sparse, and where the last extension of the wanted signature lies; or the place where
-// no extension stands although the space is not used up; or the signature of an extension that must be understood and is not.
-pub enum Walked {
-    Filled { sparse: bool, body: Body },
+// The bodies that the reader goes into: for each such signature the last extension that has it.
+pub struct Bodies {
+    pub tree: Body,
+}
+
+// What the space behind the entries comes to: whether the index is marked sparse, and the bodies that the reader goes into; or the place where no extension stands
+// although the space is not used up; or the signature of an extension that must be understood and is not.
+pub enum Space {
+    Filled { sparse: bool, bodies: Bodies },
     NotFilled(FileAt),
     Mandatory(u32),
 }
@@ -60,20 +66,31 @@ fn later(wanted: u32, signature: u32, start: FileAt, stop: FileAt, last: Body) -
     last
 }
 
+// The bodies after one more extension.
+fn latest(signature: u32, start: FileAt, stop: FileAt, last: Bodies) -> Bodies
+    ensures { λ r. ⌜ r ≡ latestOf signature start stop last ⌝ }
+{
+    let before = last.tree;
+    let tree = later(TREE, signature, start, stop, before);
+    Bodies { tree }
+}
+
 // Walks the space from `from` up to `end`.
-pub fn walk(file: &[u8], from: FileAt, end: FileAt, wanted: u32) -> Walked
-    ensures { λ r. ⌜ r ≡ walkAt (now (file .entry)) (from .0) (end .0) wanted ⌝ }
+pub fn all(file: &[u8], from: FileAt, end: FileAt) -> Space
+    ensures { λ r. ⌜ r ≡ allAt (now (file .entry)) (from .0) (end .0) ⌝ }
 {
     let mut here = Cursor { at: from, end };
     let mut sparse = false;
-    let mut last = Body::Missing;
+    let mut bodies = Bodies {
+        tree: Body::Missing,
+    };
     loop {
         let s = here.step(file);
         match s {
-            Step::Done => return Walked::Filled { sparse, body: last },
+            Step::Done => return Space::Filled { sparse, bodies },
             Step::Broken => {
                 let place = here.at;
-                return Walked::NotFilled(place);
+                return Space::NotFilled(place);
             }
             Step::Extension {
                 signature,
@@ -82,10 +99,10 @@ pub fn walk(file: &[u8], from: FileAt, end: FileAt, wanted: u32) -> Walked
                 next,
             } => {
                 if is_forbidden(signature, start, stop) {
-                    return Walked::Mandatory(signature);
+                    return Space::Mandatory(signature);
                 }
                 sparse = mark(signature, sparse);
-                last = later(wanted, signature, start, stop, last);
+                bodies = latest(signature, start, stop, bodies);
                 here = next;
             }
         }

@@ -2,9 +2,9 @@
 ghost use mathlib.Core.Path.{_≡_};
 ghost use Prim.Native.Nat.{_+_, _≤_};
 ghost use lib.ListN.{length};
-ghost use Rattle.format.specs.Format.{idSize};
-ghost use Rattle.sha1.specs.Sha1.{sha1};
-ghost use Rattle.extension.specs.EndOfIndexEntry.{whole-size, priorAt, verifiedAt, offsetIn};
+ghost use Rattle.format.specs.Format.{idSize, eoieWholeSize};
+ghost use Rattle.kind.specs.Sha1.{sha1Kind};
+ghost use Rattle.extension.specs.EndOfIndexEntry.{priorAt, verifiedAt, offsetIn};
 use crate::EOIE;
 use crate::iter::Body;
 use crate::iter::Cursor;
@@ -12,13 +12,11 @@ use crate::iter::Step;
 use sha1::Digest;
 use wire::FileAt;
 
-// How long the body is: an offset and a hash; and with its header.
-const MIN_SIZE: u32 = 24;
-
-const MIN_SIZE_WITH_HEADER: usize = 32;
+// How long the body is, as its header says it.
+const MIN_SIZE: u32 = format::EOIE_SIZE as u32;
 
 // What stands before the body's hash: header and offset.
-const BEFORE_HASH: usize = 12;
+const BEFORE_HASH: usize = format::EXTENSION_HEADER_SIZE + format::OFFSET_SIZE;
 
 // The offset at which extensions begin, if there is an EOIE that tells it.
 pub enum Told {
@@ -28,13 +26,13 @@ pub enum Told {
 
 // The extensions in front of EOIE: SHA-1 of their headers, and the body of the last.
 struct Prior {
-    sum: [u8; 20],
+    sum: [u8; format::ID_SIZE],
     last: Body,
 }
 
 // What the extensions from a place on come to, as far as they are found.
 fn summed(file: &[u8], from: FileAt, end: FileAt) -> Prior
-    ensures { λ r. ⌜ r ≡ priorAt (now (file .entry)) (from .0) (end .0) ⌝ }
+    ensures { λ r. ⌜ r ≡ priorAt sha1Kind (now (file .entry)) (from .0) (end .0) ⌝ }
 {
     let mut here = Cursor { at: from, end };
     let mut digest = Digest::new();
@@ -70,8 +68,8 @@ fn summed(file: &[u8], from: FileAt, end: FileAt) -> Prior
 
 // The offset, if its extensions have the hash that EOIE, which begins at `start`, has of them, and the last of them ends where EOIE begins.
 fn verified(file: &[u8], offset: usize, start: usize) -> Told
-    requires { ⌜ start + whole-size idSize ≤ length (now file) ⌝ }
-    ensures { λ r. ⌜ r ≡ verifiedAt idSize sha1 (now (file .entry)) start offset ⌝ }
+    requires { ⌜ start + eoieWholeSize idSize ≤ length (now file) ⌝ }
+    ensures { λ r. ⌜ r ≡ verifiedAt sha1Kind (now (file .entry)) start offset ⌝ }
 {
     let p = summed(file, FileAt(offset), FileAt(start));
     let sum = p.sum;
@@ -94,12 +92,12 @@ fn verified(file: &[u8], offset: usize, start: usize) -> Told
 
 // The offset that the EOIE in front of a file's trailer tells.
 pub fn decode(file: &[u8]) -> Told
-    ensures { λ r. ⌜ r ≡ offsetIn idSize sha1 (now (file .entry)) ⌝ }
+    ensures { λ r. ⌜ r ≡ offsetIn sha1Kind (now (file .entry)) ⌝ }
 {
-    if file.len() < MIN_SIZE_WITH_HEADER + format::ID_SIZE {
+    if file.len() < format::EOIE_WHOLE_SIZE + format::ID_SIZE {
         return Told::Nothing;
     }
-    let start = file.len() - (MIN_SIZE_WITH_HEADER + format::ID_SIZE);
+    let start = file.len() - (format::EOIE_WHOLE_SIZE + format::ID_SIZE);
     let signature = wire::be32(file, start);
     if signature != EOIE {
         return Told::Nothing;
@@ -108,7 +106,7 @@ pub fn decode(file: &[u8]) -> Told
     if size != MIN_SIZE {
         return Told::Nothing;
     }
-    let offset = wire::be32(file, start + 8) as usize;
+    let offset = wire::be32(file, start + format::EXTENSION_HEADER_SIZE) as usize;
     if offset < format::HEADER_SIZE {
         return Told::Nothing;
     }

@@ -13,23 +13,23 @@ use Rattle.wire.specs.BigEndian.{beAt}
 use Rattle.wire.specs.declared.FileAt.{FileAt}
 use Rattle.wire.specs.declared.PathAt.{PathAt}
 use Rattle.format.specs.Format.{depthLimit, headerSize, idSize}
+use Rattle.kind.specs.Sha1.{sha1Kind}
 use Rattle.decode.specs.Header.{signature, onVersion, headerAt}
 use Rattle.decode.specs.declared.header.Header.{Header}
 use Rattle.decode.specs.declared.header.Header.the-variants.{Opens, ShortFile, NoSignature, OtherVersion}
 use Rattle.decode.specs.Entries as entries
 use Rattle.decode.specs.declared.entries.Answer.{Answer as Ran}
 use Rattle.decode.specs.declared.entries.Answer.the-variants as ran
-use Rattle.extension.specs.Signatures.{TREE}
-use Rattle.extension.specs.Decode.{walkAt}
-use Rattle.extension.specs.declared.iter.Body.{Body}
+use Rattle.extension.specs.Decode.{allAt}
 use Rattle.extension.specs.declared.iter.Body.the-variants.{Lies, Missing}
-use Rattle.extension.specs.declared.decode.Walked.{Walked}
-use Rattle.extension.specs.declared.decode.Walked.the-variants as walked
+use Rattle.extension.specs.declared.decode.Bodies.{Bodies}
+use Rattle.extension.specs.declared.decode.Space.{Space}
+use Rattle.extension.specs.declared.decode.Space.the-variants as of-space
 use Rattle.tree.specs.Tree.{readTree}
 use Rattle.tree.specs.declared.TreeAnswer.{TreeAnswer}
 use Rattle.tree.specs.declared.TreeAnswer.the-variants as grown
 use Rattle.file.specs.Trailer.{goodTrailer}
-use Rattle.file.specs.Read.{Outcome, outcome, readWith, withTree, marked, onWalked, extensionsInto, withNodes, nothingBefore, onEntries, entriesInto, onHeader, readFile}
+use Rattle.file.specs.Read.{Outcome, outcome, readWith, withTree, marked, onSpace, extensionsInto, withNodes, nothingBefore, onEntries, entriesInto, onHeader, readFile}
 use Rattle.file.specs.declared.Entries.{Entries}
 use Rattle.file.specs.declared.Answer.{Answer}
 use Rattle.file.specs.declared.Answer.the-variants as answer
@@ -47,24 +47,24 @@ pub tree-malformed : (e : Entries) (t : TreeAnswer) → t ≡ grown.Malformed �
 tree-malformed e t q = sym (rw q)
 
 -- ---- the extensions
-module _ (s : List ℕ) (next end : FileAt) (e : Entries) (ns : List ℕ) (w : Walked) (ew : w ≡ walkAt s (next .0) (end .0) TREE) where
-  walked-to : extensionsInto idSize depthLimit s (next .0) (end .0) e ns ≡ onWalked idSize depthLimit s e ns w
+module _ (s : List ℕ) (next end : FileAt) (e : Entries) (ns : List ℕ) (w : Space) (ew : w ≡ allAt s (next .0) (end .0)) where
+  space-to : extensionsInto idSize depthLimit s (next .0) (end .0) e ns ≡ onSpace idSize depthLimit s e ns w
   unfolding extensionsInto
-  walked-to = rw ew
+  space-to = rw ew
 
-  pub not-filled : (place : FileAt) → w ≡ walked.NotFilled place → (answer.NotFilled (place .0), ns) ≡ extensionsInto idSize depthLimit s (next .0) (end .0) e ns
-  not-filled place q = sym (walked-to ∙ rw q)
+  pub not-filled : (place : FileAt) → w ≡ of-space.NotFilled place → (answer.NotFilled (place .0), ns) ≡ extensionsInto idSize depthLimit s (next .0) (end .0) e ns
+  not-filled place q = sym (space-to ∙ rw q)
 
-  pub mandatory : (sig : ℕ) → w ≡ walked.Mandatory sig → (answer.Mandatory sig, ns) ≡ extensionsInto idSize depthLimit s (next .0) (end .0) e ns
-  mandatory sig q = sym (walked-to ∙ rw q)
+  pub mandatory : (sig : ℕ) → w ≡ of-space.Mandatory sig → (answer.Mandatory sig, ns) ≡ extensionsInto idSize depthLimit s (next .0) (end .0) e ns
+  mandatory sig q = sym (space-to ∙ rw q)
 
-  module _ (mark : Bool) (body : Body) (q : w ≡ walked.Filled mark body) (all : Entries) (ea : all ≡ marked e mark) (a : Answer) where
-    pub no-tree : body ≡ Missing → a ≡ withTree all grown.Malformed → (a, ns) ≡ extensionsInto idSize depthLimit s (next .0) (end .0) e ns
-    no-tree b f = ap (λ (x : Answer). (x, ns)) (f ∙ ap (λ (x : Entries). withTree x grown.Malformed) ea) ∙ sym (walked-to ∙ rw (q, b))
+  module _ (mark : Bool) (bodies : Bodies) (q : w ≡ of-space.Filled mark bodies) (all : Entries) (ea : all ≡ marked e mark) (a : Answer) where
+    pub no-tree : bodies .tree ≡ Missing → a ≡ withTree all grown.Malformed → (a, ns) ≡ extensionsInto idSize depthLimit s (next .0) (end .0) e ns
+    no-tree b f = ap (λ (x : Answer). (x, ns)) (f ∙ ap (λ (x : Entries). withTree x grown.Malformed) ea) ∙ sym (space-to ∙ rw (q, b))
 
-    pub last-tree : (start stop : FileAt) → body ≡ Lies start stop → (t : TreeAnswer) (ms : List ℕ) → (t, ms) ≡ readTree idSize depthLimit s (start .0) (stop .0) ns → a ≡ withTree all t
+    pub last-tree : (start stop : FileAt) → bodies .tree ≡ Lies start stop → (t : TreeAnswer) (ms : List ℕ) → (t, ms) ≡ readTree idSize depthLimit s (start .0) (stop .0) ns → a ≡ withTree all t
         → (a, ms) ≡ extensionsInto idSize depthLimit s (next .0) (end .0) e ns
-    last-tree start stop b t ms g f = ap (λ (x : Answer). (x, ms)) (f ∙ ap (λ (x : Entries). withTree x t) ea) ∙ sym (walked-to ∙ rw (q, b, ← g))
+    last-tree start stop b t ms g f = ap (λ (x : Answer). (x, ms)) (f ∙ ap (λ (x : Entries). withTree x t) ea) ∙ sym (space-to ∙ rw (q, b, ← g))
 
 -- ---- the entries
 module _ (s : List ℕ) (version count : ℕ) (rs ps ns rs₁ ps₁ : List ℕ) (r : Ran)
@@ -85,17 +85,17 @@ module _ (s : List ℕ) (version count : ℕ) (rs ps ns rs₁ ps₁ : List ℕ) 
 
 -- ---- the file
 module _ (s rs ps ns : List ℕ) (h : Header) (eh : h ≡ headerAt idSize s) where
-  headed : readFile idSize depthLimit s rs ps ns ≡ onHeader idSize depthLimit s rs ps ns h
+  headed : readFile sha1Kind depthLimit s rs ps ns ≡ onHeader sha1Kind depthLimit s rs ps ns h
   unfolding readFile
   headed = rw eh
 
-  pub short-file : h ≡ ShortFile → outcome answer.ShortFile rs ps ns ≡ readFile idSize depthLimit s rs ps ns
+  pub short-file : h ≡ ShortFile → outcome answer.ShortFile rs ps ns ≡ readFile sha1Kind depthLimit s rs ps ns
   short-file q = sym (headed ∙ rw q)
 
-  pub no-signature : h ≡ NoSignature → outcome answer.NoSignature rs ps ns ≡ readFile idSize depthLimit s rs ps ns
+  pub no-signature : h ≡ NoSignature → outcome answer.NoSignature rs ps ns ≡ readFile sha1Kind depthLimit s rs ps ns
   no-signature q = sym (headed ∙ rw q)
 
-  pub other-version : (v : ℕ) → h ≡ OtherVersion v → outcome (answer.OtherVersion v) rs ps ns ≡ readFile idSize depthLimit s rs ps ns
+  pub other-version : (v : ℕ) → h ≡ OtherVersion v → outcome (answer.OtherVersion v) rs ps ns ≡ readFile sha1Kind depthLimit s rs ps ns
   other-version v q = sym (headed ∙ rw q)
 
   module _ (version count : ℕ) (q : h ≡ Opens version count) where
@@ -108,11 +108,11 @@ module _ (s rs ps ns : List ℕ) (h : Header) (eh : h ≡ headerAt idSize s) whe
         by true x y = let z : _≡_ {A = ℕ} 0 1 = cc in absurd (omega arith)
         by false x y = omega (arith, ltb-false (length s) (headerSize + idSize) x)
 
-    module _ (good : Bool) (eg : good ≡ goodTrailer idSize s) where
-      pub bad-trailer : good ≡ false → outcome answer.BadTrailer rs ps ns ≡ readFile idSize depthLimit s rs ps ns
+    module _ (good : Bool) (eg : good ≡ goodTrailer sha1Kind s) where
+      pub bad-trailer : good ≡ false → outcome answer.BadTrailer rs ps ns ≡ readFile sha1Kind depthLimit s rs ps ns
       bad-trailer x = sym (headed ∙ rw (q, ← eg, x))
 
-      pub opened : good ≡ true → (o : Outcome) → o ≡ entriesInto idSize depthLimit s version count rs ps ns → o ≡ readFile idSize depthLimit s rs ps ns
+      pub opened : good ≡ true → (o : Outcome) → o ≡ entriesInto idSize depthLimit s version count rs ps ns → o ≡ readFile sha1Kind depthLimit s rs ps ns
       opened x o g = g ∙ sym (headed ∙ rw (q, ← eg, x))
 
 pub ruleset laws = (marked-yes, marked-no, tree-is, tree-malformed)

@@ -1,5 +1,5 @@
 -- The whole file, read into three stores (01, "When the desk says no": 1 to 4 in that order, then entries, then extensions, then for the last TREE only 9, 10 and
--- malformation), over the length of an id and the depth limit. Assumes nothing.
+-- malformation), over the kind and the depth limit; what comes behind the trailer's test, over the length of an id. Assumes nothing.
 use Prim.Native.Nat.{ℕ, _-_}
 use mathlib.Core.Bool.{Bool, true, false}
 use mathlib.Core.List.{List}
@@ -7,6 +7,7 @@ use lib.ListN.{length}
 use Rattle.laws.specs.Pick.{pick}
 use Rattle.wire.specs.Places.{fileAt, pathAt}
 use Rattle.format.specs.Format.{headerSize}
+use Rattle.kind.specs.Kind.{Kind}
 use Rattle.decode.specs.Header.{headerAt}
 use Rattle.decode.specs.declared.header.Header.{Header}
 use Rattle.decode.specs.declared.header.Header.the-variants.{Opens, ShortFile, NoSignature, OtherVersion}
@@ -14,11 +15,11 @@ use Rattle.decode.specs.Entries as entries
 use Rattle.decode.specs.declared.entries.Before.{Before}
 use Rattle.decode.specs.declared.entries.Answer.{Answer as Ran}
 use Rattle.decode.specs.declared.entries.Answer.the-variants as ran
-use Rattle.extension.specs.Signatures.{TREE}
-use Rattle.extension.specs.Decode.{walkAt}
+use Rattle.extension.specs.Decode.{allAt}
+use Rattle.extension.specs.declared.iter.Body.{Body}
 use Rattle.extension.specs.declared.iter.Body.the-variants.{Lies, Missing}
-use Rattle.extension.specs.declared.decode.Walked.{Walked}
-use Rattle.extension.specs.declared.decode.Walked.the-variants as walked
+use Rattle.extension.specs.declared.decode.Space.{Space}
+use Rattle.extension.specs.declared.decode.Space.the-variants as of-space
 use Rattle.tree.specs.Tree.{readTree}
 use Rattle.tree.specs.declared.TreeAnswer.{TreeAnswer}
 use Rattle.tree.specs.declared.TreeAnswer.the-variants as grown
@@ -54,16 +55,20 @@ marked e mark = record { version = e .version; sparse = pick mark true (e .spars
 abbrev pub grownInto : Entries → TreeAnswer × List ℕ → Answer × List ℕ
 grownInto e (t, ns) = (withTree e t, ns)
 
--- the extensions, from the last entry on: the last TREE's nodes go to the node store
-abbrev pub onWalked : ℕ → ℕ → List ℕ → Entries → List ℕ → Walked → Answer × List ℕ
-onWalked id limit s e ns (walked.Filled mark Missing) = (readWith (marked e mark) false 0, ns)
-onWalked id limit s e ns (walked.Filled mark (Lies start stop)) = grownInto (marked e mark) (readTree id limit s (start .0) (stop .0) ns)
-onWalked id limit s e ns (walked.NotFilled place) = (answer.NotFilled (place .0), ns)
-onWalked id limit s e ns (walked.Mandatory signature) = (answer.Mandatory signature, ns)
+-- the last TREE's nodes go to the node store
+abbrev pub onTree : ℕ → ℕ → List ℕ → Entries → List ℕ → Body → Answer × List ℕ
+onTree id limit s e ns Missing = (readWith e false 0, ns)
+onTree id limit s e ns (Lies start stop) = grownInto e (readTree id limit s (start .0) (stop .0) ns)
+
+-- the extensions, from the last entry on
+abbrev pub onSpace : ℕ → ℕ → List ℕ → Entries → List ℕ → Space → Answer × List ℕ
+onSpace id limit s e ns (of-space.Filled mark bodies) = onTree id limit s (marked e mark) ns (bodies .tree)
+onSpace id limit s e ns (of-space.NotFilled place) = (answer.NotFilled (place .0), ns)
+onSpace id limit s e ns (of-space.Mandatory signature) = (answer.Mandatory signature, ns)
 
 -- they fill the space from `next` to `end`
 unfoldable pub extensionsInto : ℕ → ℕ → List ℕ → ℕ → ℕ → Entries → List ℕ → Answer × List ℕ
-extensionsInto id limit s next end e ns = onWalked id limit s e ns (walkAt s next end TREE)
+extensionsInto id limit s next end e ns = onSpace id limit s e ns (allAt s next end)
 
 abbrev pub withNodes : List ℕ → List ℕ → Answer × List ℕ → Outcome
 withNodes rs ps (a, ns) = outcome a rs ps ns
@@ -87,12 +92,12 @@ unfoldable pub entriesInto : ℕ → ℕ → List ℕ → ℕ → ℕ → List �
 entriesInto id limit s version count rs ps ns =
     afterEntries id limit s version count ns (entries.readEntries id s (fileAt (length s - id)) version count 0 (fileAt headerSize) nothingBefore rs ps)
 
-abbrev pub onHeader : ℕ → ℕ → List ℕ → List ℕ → List ℕ → List ℕ → Header → Outcome
-onHeader id limit s rs ps ns (Opens version count) = pick (goodTrailer id s) (entriesInto id limit s version count rs ps ns) (outcome answer.BadTrailer rs ps ns)
-onHeader id limit s rs ps ns ShortFile = outcome answer.ShortFile rs ps ns
-onHeader id limit s rs ps ns NoSignature = outcome answer.NoSignature rs ps ns
-onHeader id limit s rs ps ns (OtherVersion version) = outcome (answer.OtherVersion version) rs ps ns
+abbrev pub onHeader : Kind → ℕ → List ℕ → List ℕ → List ℕ → List ℕ → Header → Outcome
+onHeader kind limit s rs ps ns (Opens version count) = pick (goodTrailer kind s) (entriesInto (kind .id) limit s version count rs ps ns) (outcome answer.BadTrailer rs ps ns)
+onHeader kind limit s rs ps ns ShortFile = outcome answer.ShortFile rs ps ns
+onHeader kind limit s rs ps ns NoSignature = outcome answer.NoSignature rs ps ns
+onHeader kind limit s rs ps ns (OtherVersion version) = outcome (answer.OtherVersion version) rs ps ns
 
 -- THE DEFINITION
-unfoldable pub readFile : ℕ → ℕ → List ℕ → List ℕ → List ℕ → List ℕ → Outcome
-readFile id limit s rs ps ns = onHeader id limit s rs ps ns (headerAt id s)
+unfoldable pub readFile : Kind → ℕ → List ℕ → List ℕ → List ℕ → List ℕ → Outcome
+readFile kind limit s rs ps ns = onHeader kind limit s rs ps ns (headerAt (kind .id) s)

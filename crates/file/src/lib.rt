@@ -4,13 +4,14 @@ ghost use Prim.Native.Nat.{_≤_};
 ghost use lib.ListN.{length};
 ghost use Rattle.wire.specs.declared.FileAt.{FileAt};
 ghost use Rattle.format.specs.Format.{depthLimit, idSize};
+ghost use Rattle.kind.specs.Sha1.{sha1Kind};
 ghost use Rattle.file.specs.Trailer.{goodTrailer};
 ghost use Rattle.file.specs.Answer.{numberOf, carriesOf, valueOf};
 ghost use Rattle.file.specs.Read.{outcome, marked, withTree, extensionsInto, entriesInto, readFile};
 use decode::entries::Answer as Ran;
 use decode::entries::Before;
 use decode::header::Header;
-use extension::decode::Walked;
+use extension::decode::Space;
 use extension::iter::Body;
 use tree::TreeAnswer;
 use wire::FileAt;
@@ -119,7 +120,7 @@ pub fn carried(a: Answer) -> u64
 // Whether the trailer is zeros or the SHA-1 of all before it. Zeros are seen first, so that such a file is not hashed.
 fn good_trailer(file: &[u8]) -> bool
     requires { ⌜ idSize ≤ length (now file) ⌝ }
-    ensures { λ r. ⌜ r ≡ goodTrailer idSize (now (file .entry)) ⌝ }
+    ensures { λ r. ⌜ r ≡ goodTrailer sha1Kind (now (file .entry)) ⌝ }
 {
     let n = file.len() - format::ID_SIZE;
     let zeros = [0u8; format::ID_SIZE];
@@ -183,12 +184,16 @@ fn with_tree(e: Entries, t: TreeAnswer) -> Answer
 fn read_extensions(file: &[u8], next: FileAt, end: FileAt, e: Entries, nodes: &mut [u8]) -> Answer
     ensures { λ r. ⌜ (r, now (nodes .exit)) ≡ extensionsInto idSize depthLimit (now (file .entry)) (next .0) (end .0) e (now (nodes .entry)) ⌝ }
 {
-    let w = extension::decode::walk(file, next, end, extension::TREE);
+    let w = extension::decode::all(file, next, end);
     match w {
-        Walked::NotFilled(place) => Answer::NotFilled(place.0),
-        Walked::Mandatory(signature) => Answer::Mandatory(signature),
-        Walked::Filled { sparse: mark, body } => {
+        Space::NotFilled(place) => Answer::NotFilled(place.0),
+        Space::Mandatory(signature) => Answer::Mandatory(signature),
+        Space::Filled {
+            sparse: mark,
+            bodies,
+        } => {
             let all = marked_by(e, mark);
+            let body = bodies.tree;
             match body {
                 Body::Missing => with_tree(all, TreeAnswer::Malformed),
                 Body::Lies { start, stop } => {
@@ -212,7 +217,8 @@ fn read_entries(
     nodes: &mut [u8],
 ) -> Answer
     requires { ⌜ idSize ≤ length (now file) ⌝ }
-    ensures { λ r. ⌜ outcome r (now (records .exit)) (now (paths .exit)) (now (nodes .exit)) ≡ entriesInto idSize depthLimit (now (file .entry)) version count (now (records .entry)) (now (paths .entry)) (now (nodes .entry)) ⌝ }
+    ensures { λ r. ⌜ outcome r (now (records .exit)) (now (paths .exit)) (now (nodes .exit))
+        ≡ entriesInto idSize depthLimit (now (file .entry)) version count (now (records .entry)) (now (paths .entry)) (now (nodes .entry)) ⌝ }
 {
     let end = FileAt(file.len() - format::ID_SIZE);
     let from = FileAt(format::HEADER_SIZE);
@@ -250,7 +256,8 @@ fn read_entries(
 // Reads an index file into three lent stores: records, their paths one behind the other, and the nodes of the last TREE. Refusals 1 to 4 touch nothing; 5 and 6 leave
 // the entries before the one they name; 7 and 8 leave all entries; 9 and 10 leave all entries and a node store of zeros.
 pub fn read(file: &[u8], records: &mut [u8], paths: &mut [u8], nodes: &mut [u8]) -> Answer
-    ensures { λ r. ⌜ outcome r (now (records .exit)) (now (paths .exit)) (now (nodes .exit)) ≡ readFile idSize depthLimit (now (file .entry)) (now (records .entry)) (now (paths .entry)) (now (nodes .entry)) ⌝ }
+    ensures { λ r. ⌜ outcome r (now (records .exit)) (now (paths .exit)) (now (nodes .exit))
+        ≡ readFile sha1Kind depthLimit (now (file .entry)) (now (records .entry)) (now (paths .entry)) (now (nodes .entry)) ⌝ }
 {
     let h = decode::header::decode(file);
     match h {

@@ -6,6 +6,10 @@ use Prim.Native.Nat.{ℕ, _+_}
 abbrev pub idSize : ℕ
 idSize = 20
 
+-- the bytes that a record and a node have for an id
+abbrev pub idRoom : ℕ
+idRoom = 32
+
 -- signature, version and count
 abbrev pub headerSize : ℕ
 headerSize = 12
@@ -24,6 +28,20 @@ fixedExtendedSize = fieldsSize + 4
 -- a length field of this value says that the path runs to the first NUL
 abbrev pub longPath : ℕ
 longPath = 4095
+
+-- an extension's signature and size
+abbrev pub extensionHeaderSize : ℕ
+extensionHeaderSize = 8
+
+-- EOIE's offset; its body, which is that and a hash; and the whole of it
+abbrev pub offsetSize : ℕ
+offsetSize = 4
+
+abbrev pub eoieSize : ℕ → ℕ
+eoieSize id = offsetSize + id
+
+abbrev pub eoieWholeSize : ℕ → ℕ
+eoieWholeSize id = extensionHeaderSize + eoieSize id
 
 -- "depth is at most 64"; the root has depth 1
 abbrev pub depthLimit : ℕ

@@ -19,5 +19,12 @@ pub const LONG_PATH: usize = 4095;
 // An extension's signature and size.
 pub const EXTENSION_HEADER_SIZE: usize = 8;
 
+// EOIE's offset; its body, which is that and a hash; and the whole of it.
+pub const OFFSET_SIZE: usize = 4;
+
+pub const EOIE_SIZE: usize = OFFSET_SIZE + ID_SIZE;
+
+pub const EOIE_WHOLE_SIZE: usize = EXTENSION_HEADER_SIZE + EOIE_SIZE;
+
 // The deepest level of a tree; the root's is 1.
 pub const DEPTH_LIMIT: usize = 64;

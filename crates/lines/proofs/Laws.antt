@@ -15,6 +15,7 @@ use Rattle.laws.specs.Paste.{paste-take}
 use Rattle.laws.specs.Put.{put, put-none, put-put, set-put, length-put}
 use Rattle.wire.specs.Written.{digitsOf, size-one, size-more}
 use Rattle.show.specs.Hex.{hex, length-hex}
+use Rattle.entry.specs.Paths.{Paths}
 use Rattle.entry.specs.Record.{modeAt, idAt, stageAt, pathAt}
 use Rattle.entry.specs.Laws.{id-is, id-out}
 use Rattle.lines.specs.Lines.{octal, headOf, lineOf, lineAt, linesFrom, refusedWord, tailOf, refusedText}
@@ -62,12 +63,12 @@ length-id n rs i h =
     (λ l. ap length (sym (id-out n rs i l)) ∙ length-replicate {A = ℕ} n 0)
     (lt-or-ge i (length rs / 96))
 
-length-at : (rs ps : List ℕ) (i : ℕ) → length (lineAt idSize rs ps i) ≡ 51 + length (pathAt rs ps i)
+length-at : (rs : List ℕ) (ps : Paths) (i : ℕ) → length (lineAt idSize rs ps i) ≡ 51 + length (pathAt rs ps i)
 unfolding lineAt
 length-at rs ps i =
     length-line (modeAt rs i) (idAt idSize rs i) (stageAt rs i) (pathAt rs ps i) ∙ omega (arith, length-id idSize rs i (omega arith))
 
-module _ (rs ps : List ℕ) (i : ℕ) (path : List ℕ) (ep : path ≡ pathAt rs ps i) where
+module _ (rs : List ℕ) (ps : Paths) (i : ℕ) (path : List ℕ) (ep : path ≡ pathAt rs ps i) where
   pub line-length : length (lineAt idSize rs ps i) ≡ 51 + length path
   line-length = length-at rs ps i ∙ ap (λ (l : List ℕ). 51 + length l) (sym ep)
 
@@ -99,11 +100,11 @@ module _ (rs ps : List ℕ) (i : ℕ) (path : List ℕ) (ep : path ≡ pathAt rs
 
 -- ---- the lines of a table
 
-lines-none : (rs ps : List ℕ) (n i : ℕ) → n ≤ i → linesFrom idSize rs ps (n - i) i ≡ []
+lines-none : (rs : List ℕ) (ps : Paths) (n i : ℕ) → n ≤ i → linesFrom idSize rs ps (n - i) i ≡ []
 unfolding linesFrom
 lines-none rs ps n i h = let q : n - i ≡ 0 = omega arith in rw q
 
-lines-more : (rs ps : List ℕ) (n i : ℕ) → i < n → linesFrom idSize rs ps (n - i) i ≡ lineAt idSize rs ps i ++ linesFrom idSize rs ps (n - (i + 1)) (i + 1)
+lines-more : (rs : List ℕ) (ps : Paths) (n i : ℕ) → i < n → linesFrom idSize rs ps (n - i) i ≡ lineAt idSize rs ps i ++ linesFrom idSize rs ps (n - (i + 1)) (i + 1)
 unfolding linesFrom
 lines-more rs ps n i h = let q : n - i ≡ suc (n - (i + 1)) = omega arith in rw q
 
@@ -111,12 +112,12 @@ lines-more rs ps n i h = let q : n - i ≡ suc (n - (i + 1)) = omega arith in rw
 pub size-small : (n s : ℕ) → s ≡ cap n → s ≤ largest
 size-small n s e = omega (arith, cap-small n)
 
-pub size-start : (rs ps : List ℕ) (n : ℕ) → cap (0 + length (linesFrom idSize rs ps (n - 0) 0)) ≡ cap (length (linesFrom idSize rs ps n 0))
+pub size-start : (rs : List ℕ) (ps : Paths) (n : ℕ) → cap (0 + length (linesFrom idSize rs ps (n - 0) 0)) ≡ cap (length (linesFrom idSize rs ps n 0))
 size-start rs ps n =
     let q : 0 + length (linesFrom idSize rs ps (n - 0) 0) ≡ length (linesFrom idSize rs ps (n - 0) 0) = omega arith in
     ap cap q ∙ ap (λ (k : ℕ). cap (length (linesFrom idSize rs ps k 0))) (sub-zero n)
 
-module _ (rs ps : List ℕ) (n i size r : ℕ) (inv : cap (size + length (linesFrom idSize rs ps (n - i) i)) ≡ r) where
+module _ (rs : List ℕ) (ps : Paths) (n i size r : ℕ) (inv : cap (size + length (linesFrom idSize rs ps (n - i) i)) ≡ r) where
   pub size-end : size ≤ 18446744073709551615 → n ≤ i → size ≡ r
   size-end s h =
       let z : size + length (linesFrom idSize rs ps (n - i) i) ≡ size = omega (arith, ap length (lines-none rs ps n i h)) in
@@ -131,13 +132,13 @@ module _ (rs ps : List ℕ) (n i size r : ℕ) (inv : cap (size + length (linesF
 
 -- ---- the fill
 
-pub fill-start : (rs ps d : List ℕ) (n : ℕ) → put d 0 (linesFrom idSize rs ps (n - 0) 0) ≡ put d 0 (linesFrom idSize rs ps n 0)
+pub fill-start : (rs : List ℕ) (ps : Paths) (d : List ℕ) (n : ℕ) → put d 0 (linesFrom idSize rs ps (n - 0) 0) ≡ put d 0 (linesFrom idSize rs ps n 0)
 fill-start rs ps d n = rw sub-zero
 
-pub fill-fits : (rs ps : List ℕ) (n m : ℕ) → length (linesFrom idSize rs ps n 0) ≤ m → 0 + length (linesFrom idSize rs ps (n - 0) 0) ≤ m
+pub fill-fits : (rs : List ℕ) (ps : Paths) (n m : ℕ) → length (linesFrom idSize rs ps n 0) ≤ m → 0 + length (linesFrom idSize rs ps (n - 0) 0) ≤ m
 fill-fits rs ps n m h = rw sub-zero (omega arith)
 
-module _ (rs ps : List ℕ) (n i to : ℕ) where
+module _ (rs : List ℕ) (ps : Paths) (n i to : ℕ) where
   both : i < n → length (linesFrom idSize rs ps (n - i) i) ≡ length (lineAt idSize rs ps i) + length (linesFrom idSize rs ps (n - (i + 1)) (i + 1))
   both h = ap length (lines-more rs ps n i h) ∙ length-append (lineAt idSize rs ps i) (linesFrom idSize rs ps (n - (i + 1)) (i + 1))
 

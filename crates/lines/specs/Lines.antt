@@ -4,6 +4,7 @@ use mathlib.Core.Bool.{Bool}
 use mathlib.Core.List.{List, [], _∷_, _++_}
 use Rattle.laws.specs.Pick.{pick}
 use Rattle.wire.specs.Written.{digitsOf}
+use Rattle.entry.specs.Paths.{Paths}
 use Rattle.entry.specs.Record.{modeAt, idAt, stageAt, pathAt}
 use Rattle.show.specs.Hex.{hex}
 
@@ -29,11 +30,11 @@ unfoldable pub lineOf : ℕ → List ℕ → ℕ → List ℕ → List ℕ
 lineOf mode id stage path = headOf mode id stage ++ path ++ (newline ∷ [])
 
 -- the line of record i, over the length of an id
-unfoldable pub lineAt : ℕ → List ℕ → List ℕ → ℕ → List ℕ
+unfoldable pub lineAt : ℕ → List ℕ → Paths → ℕ → List ℕ
 lineAt id rs ps i = lineOf (modeAt rs i) (idAt id rs i) (stageAt rs i) (pathAt rs ps i)
 
 -- the lines of the n records from record i on
-unfoldable pub linesFrom : ℕ → List ℕ → List ℕ → ℕ → ℕ → List ℕ
+unfoldable pub linesFrom : ℕ → List ℕ → Paths → ℕ → ℕ → List ℕ
 linesFrom id rs ps zero i = []
 linesFrom id rs ps (suc n) i = lineAt id rs ps i ++ linesFrom id rs ps n (i + 1)
 

@@ -7,6 +7,7 @@ ghost use Rattle.format.specs.Format.{idSize};
 ghost use Rattle.laws.specs.Put.{put};
 ghost use Rattle.lines.specs.Lines.{octal, headOf, lineAt, linesFrom, tailOf, refusedText};
 ghost use Rattle.sums.specs.Cap.{cap};
+ghost use Rattle.entry.specs.Paths.{lyingIn};
 ghost use Rattle.lines.specs.Written.{outcome, written};
 
 const NEWLINE: u8 = 10;
@@ -68,8 +69,9 @@ fn put_head(mode: u32, id: [u8; format::ID_SIZE], stage: u32, out: &mut [u8], at
 
 // Writes the line of record i at `at`, and answers the place behind it.
 fn put_line(records: &[u8], paths: &[u8], i: usize, out: &mut [u8], at: usize) -> usize
-    requires { ⌜ at + length (lineAt idSize (now records) (now paths) i) ≤ length (now out) ⌝ }
-    ensures { λ r. ⌜ (r ≡ at + length (lineAt idSize (now (records .entry)) (now (paths .entry)) i)) × (now (out .exit) ≡ put (now (out .entry)) at (lineAt idSize (now (records .entry)) (now (paths .entry)) i)) ⌝ }
+    requires { ⌜ at + length (lineAt idSize (now records) (lyingIn (now paths)) i) ≤ length (now out) ⌝ }
+    ensures { λ r. ⌜ (r ≡ at + length (lineAt idSize (now (records .entry)) (lyingIn (now (paths .entry))) i))
+        × (now (out .exit) ≡ put (now (out .entry)) at (lineAt idSize (now (records .entry)) (lyingIn (now (paths .entry))) i)) ⌝ }
 {
     let mode = entry::mode_at(records, i);
     let id = entry::id_at(records, i);
@@ -86,7 +88,7 @@ fn put_line(records: &[u8], paths: &[u8], i: usize, out: &mut [u8], at: usize) -
 
 // How long the lines of the first n records are.
 fn size_lines(records: &[u8], paths: &[u8], n: usize) -> usize
-    ensures { λ r. ⌜ r ≡ cap (length (linesFrom idSize (now (records .entry)) (now (paths .entry)) n 0)) ⌝ }
+    ensures { λ r. ⌜ r ≡ cap (length (linesFrom idSize (now (records .entry)) (lyingIn (now (paths .entry))) n 0)) ⌝ }
 {
     let mut size: usize = 0;
     let mut i: usize = 0;
@@ -101,8 +103,8 @@ fn size_lines(records: &[u8], paths: &[u8], n: usize) -> usize
 
 // Writes the lines of the first n records at the start of out.
 fn fill_lines(records: &[u8], paths: &[u8], n: usize, out: &mut [u8])
-    requires { ⌜ length (linesFrom idSize (now records) (now paths) n 0) ≤ length (now out) ⌝ }
-    ensures { λ _. ⌜ now (out .exit) ≡ put (now (out .entry)) 0 (linesFrom idSize (now (records .entry)) (now (paths .entry)) n 0) ⌝ }
+    requires { ⌜ length (linesFrom idSize (now records) (lyingIn (now paths)) n 0) ≤ length (now out) ⌝ }
+    ensures { λ _. ⌜ now (out .exit) ≡ put (now (out .entry)) 0 (linesFrom idSize (now (records .entry)) (lyingIn (now (paths .entry))) n 0) ⌝ }
 {
     let mut at: usize = 0;
     let mut i: usize = 0;
@@ -114,7 +116,7 @@ fn fill_lines(records: &[u8], paths: &[u8], n: usize, out: &mut [u8])
 
 // Writes the lines of the first n records, if they fit, and answers how long they are.
 pub fn write_records(records: &[u8], paths: &[u8], n: usize, out: &mut [u8]) -> usize
-    ensures { λ r. ⌜ outcome r (now (out .exit)) ≡ written (linesFrom idSize (now (records .entry)) (now (paths .entry)) n 0) (now (out .entry)) ⌝ }
+    ensures { λ r. ⌜ outcome r (now (out .exit)) ≡ written (linesFrom idSize (now (records .entry)) (lyingIn (now (paths .entry))) n 0) (now (out .entry)) ⌝ }
 {
     let size = size_lines(records, paths, n);
     if out.len() < size {

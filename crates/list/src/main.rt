@@ -4,8 +4,8 @@ use libc::STDOUT_FILENO;
 
 // Prints the listing of a file. Every listing fits, so that no part of one is ever held back.
 fn print(file: &[u8]) {
-    let mut out = [0u8; listing::LISTING_ROOM];
-    let size = listing::list_file(file, &mut out);
+    let mut out = [0u8; list_text::LISTING_ROOM];
+    let size = list_text::list_file(file, &mut out);
     io::write_all(STDOUT_FILENO, &out[..size]);
 }
 

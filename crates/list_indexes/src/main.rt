@@ -12,8 +12,8 @@ fn write(out: &[u8], size: usize) {
 fn list(fd: i32) {
     let mut file = [0u8; 65537];
     let n = io::read_full(fd, &mut file);
-    let mut out = [0u8; listing::LISTING_ROOM];
-    let size = listing::list_file(&file[..n], &mut out);
+    let mut out = [0u8; list_text::LISTING_ROOM];
+    let size = list_text::list_file(&file[..n], &mut out);
     write(&out, size);
 }
 

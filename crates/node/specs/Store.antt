@@ -8,6 +8,7 @@ use lib.Dec.{ltb, leb}
 use lib.Seq.{paste}
 use Rattle.laws.specs.Pick.{pick}
 use Rattle.wire.specs.BigEndian.{beAt, bytesOf}
+use Rattle.format.specs.Format.{idRoom}
 use Rattle.node.specs.declared.Node.{Node}
 
 abbrev pub nodeSize : ℕ
@@ -31,9 +32,6 @@ parentPlace = 32
 
 abbrev pub idPlace : ℕ
 idPlace = 40
-
-abbrev pub idRoom : ℕ
-idRoom = 32
 
 -- how many nodes a store has room for
 abbrev pub nodesIn : List ℕ → ℕ

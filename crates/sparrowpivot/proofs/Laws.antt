@@ -16,7 +16,7 @@ use Rattle.refusal.specs.Refusal.{not-spelled, no-entry-room, no-stage, path-ou
 use Rattle.refusal.specs.Bit.{bit}
 use Rattle.format.specs.Format.{depthLimit}
 use Rattle.format.specs.Format.{headerSize, idSize}
-use Rattle.sha1.specs.Sha1.{sha1}
+use Rattle.kind.specs.Sha1.{sha1Kind}
 use Rattle.decode.specs.Entries as entries
 use Rattle.decode.specs.declared.entries.Answer.{Answer as Ran}
 use Rattle.decode.specs.declared.entries.Answer.the-variants as ran
@@ -31,6 +31,7 @@ use Rattle.write.specs.declared.Answer.the-variants as written
 use Rattle.decode.specs.Bounds.{maxEntries}
 use Rattle.decode.specs.declared.entries.Extensions.{Extensions}
 use Rattle.decode.specs.declared.entries.Extensions.the-variants.{From, NotTold}
+use Rattle.entry.specs.Paths.{Paths}
 use Rattle.entry.specs.Record.{recordsIn, modeAt, flagsAt, stageAt, startAt, endAt, liesInside}
 use Rattle.entry.specs.Stat.{statAt}
 use Rattle.entry.specs.declared.stat.Stat.{Stat}
@@ -89,14 +90,14 @@ options-asked n =
     let e : n % 2 ≡ n / 2 ^ 0 % 2 = omega arith in
     (λ k. record { tree = eqb (e k) 1; cache = eqb (n / 2 % 2) 1; eoie = eqb (n / 4 % 2) 1; sparse = eqb (n / 8 % 2) 1; unhashed = eqb (n / 16 % 2) 1 })
 
-module _ (rs ps ns nm out₀ out : List ℕ) (options : ℕ) (o : Options) (a : Written) (e : write.outcome a out ≡ write.writeAll idSize sha1 depthLimit rs ps ns nm o out₀) (asked : o ≡ optionsFrom options) where
+module _ (rs : List ℕ) (ps : Paths) (ns nm out₀ out : List ℕ) (options : ℕ) (o : Options) (a : Written) (e : write.outcome a out ≡ write.writeAll sha1Kind depthLimit rs ps ns nm o out₀) (asked : o ≡ optionsFrom options) where
   abbrev whole-write : Told
-  whole-write = tellWrite (write.writeAll idSize sha1 depthLimit rs ps ns nm (optionsFrom options) out₀)
+  whole-write = tellWrite (write.writeAll sha1Kind depthLimit rs ps ns nm (optionsFrom options) out₀)
 
   as-written : {x : Written} → a ≡ x → tellWrite (write.outcome x out) ≡ whole-write
   as-written q =
       sym (ap (λ (x : Written). tellWrite (write.outcome x out)) q) ∙ ap tellWrite e
-      ∙ ap (λ (x : Options). tellWrite (write.writeAll idSize sha1 depthLimit rs ps ns nm x out₀)) asked
+      ∙ ap (λ (x : Options). tellWrite (write.writeAll sha1Kind depthLimit rs ps ns nm x out₀)) asked
 
   pub told-written : {version size : ℕ} → a ≡ written.Done version size → told 0 (eight (version ∷ size ∷ [])) (out ∷ []) ≡ whole-write
   told-written = as-written
@@ -173,7 +174,7 @@ told-most size version q e = e ∙ ap (λ (z : Extensions). maxEntries size z ve
 
 -- ---- tables
 
-module _ (rs ps : List ℕ) (i : ℕ) where
+module _ (rs : List ℕ) (ps : Paths) (i : ℕ) where
   pub told-record : {mode flags stage start end inside there n : ℕ} {lies : Bool} {s : Stat} → mode ≡ modeAt rs i → flags ≡ flagsAt rs i → stage ≡ stageAt rs i → start ≡ startAt rs i → end ≡ endAt rs i → lies ≡ liesInside rs ps i → inside ≡ bit lies → n ≡ recordsIn rs → there ≡ bit (ltb i n) → s ≡ statAt rs i → told 0 (mode ∷ flags ∷ stage ∷ start ∷ end ∷ inside ∷ there ∷ s .size ∷ []) [] ≡ tellRecord rs ps i
   told-record m f g b e l p n t s =
       let inner = p ∙ ap bit l in

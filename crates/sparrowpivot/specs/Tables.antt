@@ -6,13 +6,14 @@ use lib.Dec.{ltb}
 use Rattle.laws.specs.Pick.{pick}
 use Rattle.refusal.specs.Bit.{bit}
 use Rattle.format.specs.Format.{idSize}
+use Rattle.entry.specs.Paths.{Paths}
 use Rattle.entry.specs.Record.{recordsIn, modeAt, flagsAt, stageAt, startAt, endAt, liesInside}
 use Rattle.entry.specs.Stat.{statAt}
 use Rattle.entry.specs.declared.stat.Stat.{Stat}
 use Rattle.node.specs.Store.{nodesIn, nameStartAt, nameEndAt, countAt, subtreesAt, parentAt, idAt}
 use Rattle.sparrowpivot.specs.Told.{Told, told}
 
-abbrev pub tellRecord : List ℕ → List ℕ → ℕ → Told
+abbrev pub tellRecord : List ℕ → Paths → ℕ → Told
 tellRecord rs ps i =
     told 0
     (modeAt rs i ∷ flagsAt rs i ∷ stageAt rs i ∷ startAt rs i ∷ endAt rs i ∷ bit (liesInside rs ps i) ∷ bit (ltb i (recordsIn rs)) ∷ statAt rs i .size ∷ [])

@@ -2,7 +2,7 @@
 ghost use mathlib.Core.Path.{_≡_};
 ghost use mathlib.Core.List.{[]};
 ghost use Rattle.format.specs.Format.{idSize};
-ghost use Rattle.sha1.specs.Sha1.{sha1};
+ghost use Rattle.kind.specs.Sha1.{sha1Kind};
 ghost use Rattle.decode.specs.Bounds.{maxEntries};
 ghost use Rattle.extension.specs.EndOfIndexEntry.{offsetIn};
 ghost use Rattle.extension.specs.IndexEntryOffsetTable.{tableFrom, pairFrom};
@@ -17,7 +17,7 @@ use wire::FileAt;
 // The EOIE: 1 if there is one, and the offset at which extensions begin.
 #[no_mangle]
 pub extern "C" fn sparrowpivot_eoie(file: &[u8], values: &mut [u64; 8]) -> u32
-    ensures { λ r. ⌜ told r (now (values .exit)) [] ≡ tellOffset (offsetIn idSize sha1 (now (file .entry))) ⌝ }
+    ensures { λ r. ⌜ told r (now (values .exit)) [] ≡ tellOffset (offsetIn sha1Kind (now (file .entry))) ⌝ }
 {
     let a = extension::end_of_index_entry::decode(file);
     match a {

@@ -5,6 +5,7 @@ ghost use Prim.Native.Nat.{_-_};
 ghost use lib.ListN.{length};
 ghost use Rattle.wire.specs.Places.{fileAt};
 ghost use Rattle.format.specs.Format.{depthLimit, headerSize, idSize};
+ghost use Rattle.kind.specs.Sha1.{sha1Kind};
 ghost use Rattle.decode.specs.Entries.{readEntries};
 ghost use Rattle.file.specs.Answer.{carriedOf};
 ghost use Rattle.file.specs.Read.{readFile};
@@ -57,7 +58,8 @@ pub extern "C" fn sparrowpivot_read(
     nodes: &mut [u8],
     values: &mut [u64; 8],
 ) -> u32
-    ensures { λ r. ⌜ told r (now (values .exit)) (now (records .exit) ∷ now (paths .exit) ∷ now (nodes .exit) ∷ []) ≡ tellRead (readFile idSize depthLimit (now (file .entry)) (now (records .entry)) (now (paths .entry)) (now (nodes .entry))) ⌝ }
+    ensures { λ r. ⌜ told r (now (values .exit)) (now (records .exit) ∷ now (paths .exit) ∷ now (nodes .exit) ∷ [])
+        ≡ tellRead (readFile sha1Kind depthLimit (now (file .entry)) (now (records .entry)) (now (paths .entry)) (now (nodes .entry))) ⌝ }
 {
     let a = file::read(file, records, paths, nodes);
     let all = read_values(a);
@@ -76,7 +78,9 @@ pub extern "C" fn sparrowpivot_entries(
     paths: &mut [u8],
     values: &mut [u64; 8],
 ) -> u32
-    ensures { λ r. ⌜ told r (now (values .exit)) (now (records .exit) ∷ now (paths .exit) ∷ []) ≡ tellEntries (readEntries idSize (now (file .entry)) (fileAt (length (now (file .entry)) - idSize)) version count 0 (fileAt headerSize) begin (now (records .entry)) (now (paths .entry))) ⌝ }
+    ensures { λ r. ⌜ told r (now (values .exit)) (now (records .exit) ∷ now (paths .exit) ∷ [])
+        ≡ tellEntries
+        (readEntries idSize (now (file .entry)) (fileAt (length (now (file .entry)) - idSize)) version count 0 (fileAt headerSize) begin (now (records .entry)) (now (paths .entry))) ⌝ }
 {
     let end = sums::saturating_sub(file.len(), format::ID_SIZE);
     let before = Before {

@@ -1,6 +1,7 @@
 // A record looked up by its path and stage, and whether a table is in order.
 ghost use mathlib.Core.Path.{_≡_};
 ghost use mathlib.Core.List.{[]};
+ghost use Rattle.entry.specs.Paths.{lyingIn};
 ghost use Rattle.access.specs.Lookup.{lookupAt};
 ghost use Rattle.access.specs.Verify.{verifyAt};
 ghost use Rattle.sparrowpivot.specs.Told.{told};
@@ -17,7 +18,7 @@ pub extern "C" fn sparrowpivot_lookup(
     stage: u32,
     values: &mut [u64; 8],
 ) -> u32
-    ensures { λ r. ⌜ told r (now (values .exit)) [] ≡ tellFound (lookupAt (now (records .entry)) (now (paths .entry)) (now (key .entry)) stage) ⌝ }
+    ensures { λ r. ⌜ told r (now (values .exit)) [] ≡ tellFound (lookupAt (now (records .entry)) (lyingIn (now (paths .entry))) (now (key .entry)) stage) ⌝ }
 {
     let a = access::lookup(records, paths, key, stage);
     match a {
@@ -47,7 +48,7 @@ pub extern "C" fn sparrowpivot_check_order(
     paths: &[u8],
     values: &mut [u64; 8],
 ) -> u32
-    ensures { λ r. ⌜ told r (now (values .exit)) [] ≡ tellVerified (verifyAt (now (records .entry)) (now (paths .entry))) ⌝ }
+    ensures { λ r. ⌜ told r (now (values .exit)) [] ≡ tellVerified (verifyAt (now (records .entry)) (lyingIn (now (paths .entry)))) ⌝ }
 {
     let a = access::verify::verify_entries(records, paths);
     match a {

@@ -3,6 +3,7 @@
 ghost use mathlib.Core.Path.{_≡_};
 ghost use mathlib.Core.List.{[]};
 ghost use Rattle.format.specs.Format.{idSize};
+ghost use Rattle.entry.specs.Paths.{lyingIn};
 ghost use Rattle.entry.specs.Record.{idAt};
 ghost use Rattle.sparrowpivot.specs.Told.{told};
 ghost use Rattle.sparrowpivot.specs.Tables.{tellRecord, tellStat, tellNode, nodeId};
@@ -15,7 +16,7 @@ pub extern "C" fn sparrowpivot_record(
     i: usize,
     values: &mut [u64; 8],
 ) -> u32
-    ensures { λ r. ⌜ told r (now (values .exit)) [] ≡ tellRecord (now (records .entry)) (now (paths .entry)) i ⌝ }
+    ensures { λ r. ⌜ told r (now (values .exit)) [] ≡ tellRecord (now (records .entry)) (lyingIn (now (paths .entry))) i ⌝ }
 {
     let mode = entry::mode_at(records, i);
     let flags = entry::flags_at(records, i);

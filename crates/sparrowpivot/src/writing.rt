@@ -1,8 +1,9 @@
 // An index file written from lent tables into a lent output.
 ghost use mathlib.Core.Path.{_≡_};
 ghost use mathlib.Core.List.{[], _∷_};
-ghost use Rattle.format.specs.Format.{depthLimit, idSize};
-ghost use Rattle.sha1.specs.Sha1.{sha1};
+ghost use Rattle.format.specs.Format.{depthLimit};
+ghost use Rattle.kind.specs.Sha1.{sha1Kind};
+ghost use Rattle.entry.specs.Paths.{lyingIn};
 ghost use Rattle.write.specs.File.{writeAll};
 ghost use Rattle.sparrowpivot.specs.Told.{told};
 ghost use Rattle.sparrowpivot.specs.Writing.{optionsFrom, tellWrite};
@@ -34,7 +35,9 @@ pub extern "C" fn sparrowpivot_write(
     out: &mut [u8],
     values: &mut [u64; 8],
 ) -> u32
-    ensures { λ r. ⌜ told r (now (values .exit)) (now (out .exit) ∷ []) ≡ tellWrite (writeAll idSize sha1 depthLimit (now (records .entry)) (now (paths .entry)) (now (nodes .entry)) (now (names .entry)) (optionsFrom options) (now (out .entry))) ⌝ }
+    ensures { λ r. ⌜ told r (now (values .exit)) (now (out .exit) ∷ [])
+        ≡ tellWrite
+        (writeAll sha1Kind depthLimit (now (records .entry)) (lyingIn (now (paths .entry))) (now (nodes .entry)) (now (names .entry)) (optionsFrom options) (now (out .entry))) ⌝ }
 {
     let o = options_from(options);
     let a = write::write_to(records, paths, nodes, names, o, out);

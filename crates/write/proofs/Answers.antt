@@ -10,8 +10,9 @@ use Rattle.laws.specs.Pick.{pick}
 use Rattle.laws.specs.Put.{put, put-front}
 use Rattle.sums.specs.Cap.{cap, cap-fits, cap-le, cap-below}
 use Rattle.format.specs.Format.{depthLimit, idSize}
-use Rattle.sha1.specs.Sha1.{sha1}
+use Rattle.kind.specs.Sha1.{sha1Kind}
 use Rattle.tree_write.specs.Tree.{treeBytes}
+use Rattle.entry.specs.Paths.{Paths}
 use Rattle.entry.specs.Record.{recordsIn}
 use Rattle.write.specs.declared.Options.{Options}
 use Rattle.write.specs.declared.Answer.{Answer}
@@ -39,7 +40,7 @@ unfolding countOf
 count-most rs zero i = omega arith
 count-most rs (suc n) i = omega (arith, kept-most rs i, count-most rs n (i + 1))
 
-pub count-small : (rs ps : List ℕ) (version count size n : ℕ) → Counted rs ps version count size → n ≡ recordsIn rs → n ≤ most → count ≤ most
+pub count-small : (rs : List ℕ) (ps : Paths) (version count size n : ℕ) → Counted idSize rs ps version count size → n ≡ recordsIn rs → n ≤ most → count ≤ most
 count-small rs ps version count size n known en few = omega (arith, known .counted, count-most rs (recordsIn rs) 0)
 
 pub tree-small : (a t h b : ℕ) → b ≡ cap (cap (a + t) + h) → b ≤ most → t ≤ most
@@ -54,26 +55,26 @@ end-bound false e q = omega arith
 
 -- ---- a table that was sized
 
-module _ (rs ps ns nm : List ℕ) (o : Options) where
+module _ (rs : List ℕ) (ps : Paths) (ns nm : List ℕ) (o : Options) where
   abbrev body : List ℕ
   body = bodyBytes idSize depthLimit rs ps ns nm o
 
   -- THE FILE'S LENGTH
-  pub length-file : length (fileBytes idSize sha1 depthLimit rs ps ns nm o) ≡ length (bodyBytes idSize depthLimit rs ps ns nm o) + endSize idSize (hasEoie (recordsIn rs) o)
+  pub length-file : length (fileBytes sha1Kind depthLimit rs ps ns nm o) ≡ length (bodyBytes idSize depthLimit rs ps ns nm o) + endSize idSize (hasEoie (recordsIn rs) o)
   unfolding fileBytes fileOf closedOf
   length-file =
       let toc : List ℕ = contents (extensionsAsked idSize depthLimit ns nm o) in
-      let e : List ℕ = eoiePart idSize sha1 (hasEoie (recordsIn rs) o) (offsetOf idSize rs ps) toc in
-      omega (arith, length-append (body ++ e) (trailerOf idSize sha1 (o .unhashed) (body ++ e)), length-append body e, length-trailer (o .unhashed) (body ++ e), length-eoie-part (hasEoie (recordsIn rs) o) (offsetOf idSize rs ps) toc)
+      let e : List ℕ = eoiePart sha1Kind (hasEoie (recordsIn rs) o) (offsetOf idSize rs ps) toc in
+      omega (arith, length-append (body ++ e) (trailerOf sha1Kind (o .unhashed) (body ++ e)), length-append body e, length-trailer sha1Kind (o .unhashed) (body ++ e), length-eoie-part (hasEoie (recordsIn rs) o) (offsetOf idSize rs ps) toc)
 
   abbrev answer : List ℕ → Answer → List ℕ → Type 0
-  answer out a out₁ = outcome a out₁ ≡ writeTable idSize sha1 depthLimit rs ps ns nm o out
+  answer out a out₁ = outcome a out₁ ≡ writeTable sha1Kind depthLimit rs ps ns nm o out
 
   pub records-many : (out : List ℕ) (n : ℕ) → n ≡ recordsIn rs → most < n → answer out TooLarge out
   unfolding writeFile
   records-many out n en h = sym (rw (← en, lt-ltb most n h))
 
-  module _ (n version count size t b : ℕ) (writes : Bool) (en : n ≡ recordsIn rs) (few : n ≤ most) (ew : writes ≡ writesTree o) (known : Counted rs ps version count size)
+  module _ (n version count size t b : ℕ) (writes : Bool) (en : n ≡ recordsIn rs) (few : n ≤ most) (ew : writes ≡ writesTree o) (known : Counted idSize rs ps version count size)
       (et : t ≡ cap (length (treeOf idSize depthLimit ns nm writes))) (eb : b ≡ cap (cap (cap (size + headSize writes) + t) + headSize (o .sparse))) where
     few-records : recordsIn rs ≤ most
     few-records = omega arith
@@ -114,14 +115,14 @@ module _ (rs ps ns nm : List ℕ) (o : Options) where
         has-is : h ≡ hasEoie (recordsIn rs) o
         has-is = eh ∙ ap (λ (x : ℕ). hasEoie x o) en
 
-        whole-is : b + e ≡ length (fileBytes idSize sha1 depthLimit rs ps ns nm o)
+        whole-is : b + e ≡ length (fileBytes sha1Kind depthLimit rs ps ns nm o)
         whole-is = omega (arith, body-same, length-file, ap (λ (x : Bool). endSize idSize x) has-is)
 
         pub file-short : (out : List ℕ) → length out < b + e → answer out (ShortOutput (b + e)) out
         unfolding writeFile
         file-short out l =
-            let k : length out < length (fileBytes idSize sha1 depthLimit rs ps ns nm o) = omega (arith, whole-is) in
-            ap (λ (x : ℕ). outcome (ShortOutput x) out) whole-is ∙ sym (rw (le-ltb most (recordsIn rs) few-records, le-ltb most (length (bodyBytes idSize depthLimit rs ps ns nm o)) body-small, lt-ltb (length out) (length (fileBytes idSize sha1 depthLimit rs ps ns nm o)) k))
+            let k : length out < length (fileBytes sha1Kind depthLimit rs ps ns nm o) = omega (arith, whole-is) in
+            ap (λ (x : ℕ). outcome (ShortOutput x) out) whole-is ∙ sym (rw (le-ltb most (recordsIn rs) few-records, le-ltb most (length (bodyBytes idSize depthLimit rs ps ns nm o)) body-small, lt-ltb (length out) (length (fileBytes sha1Kind depthLimit rs ps ns nm o)) k))
 
         same-body : bodyOf idSize rs ps version count (extensionsFor writes (treeBytes idSize depthLimit ns nm) (o .sparse)) ≡ bodyBytes idSize depthLimit rs ps ns nm o
         unfolding bodyBytes
@@ -130,21 +131,21 @@ module _ (rs ps ns nm : List ℕ) (o : Options) where
         pub file-room : (m : ℕ) → b + e ≤ m → length (bodyOf idSize rs ps version count (extensionsFor writes (treeBytes idSize depthLimit ns nm) (o .sparse))) + endSize idSize h ≤ m
         file-room m fits = omega (arith, ap length same-body, body-same)
 
-        same-file : fileOf idSize sha1 (closedOf idSize sha1 (bodyOf idSize rs ps version count (extensionsFor writes (treeBytes idSize depthLimit ns nm) (o .sparse))) h (offsetOf idSize rs ps) (contents (extensionsFor writes (treeBytes idSize depthLimit ns nm) (o .sparse)))) (o .unhashed) ≡ fileBytes idSize sha1 depthLimit rs ps ns nm o
+        same-file : fileOf sha1Kind (closedOf sha1Kind (bodyOf idSize rs ps version count (extensionsFor writes (treeBytes idSize depthLimit ns nm) (o .sparse))) h (offsetOf idSize rs ps) (contents (extensionsFor writes (treeBytes idSize depthLimit ns nm) (o .sparse)))) (o .unhashed) ≡ fileBytes sha1Kind depthLimit rs ps ns nm o
         unfolding fileBytes
         same-file =
-            λ j. fileOf idSize sha1 (closedOf idSize sha1 (same-body j) (has-is j) (offsetOf idSize rs ps) (contents (extensionsFor (ew j) (treeBytes idSize depthLimit ns nm) (o .sparse)))) (o .unhashed)
+            λ j. fileOf sha1Kind (closedOf sha1Kind (same-body j) (has-is j) (offsetOf idSize rs ps) (contents (extensionsFor (ew j) (treeBytes idSize depthLimit ns nm) (o .sparse)))) (o .unhashed)
 
         pub file-done : (out : List ℕ) → b + e ≤ length out → (out₁ : List ℕ)
-            → out₁ ≡ put out 0 (fileOf idSize sha1 (closedOf idSize sha1 (bodyOf idSize rs ps version count (extensionsFor writes (treeBytes idSize depthLimit ns nm) (o .sparse))) h (offsetOf idSize rs ps) (contents (extensionsFor writes (treeBytes idSize depthLimit ns nm) (o .sparse)))) (o .unhashed))
+            → out₁ ≡ put out 0 (fileOf sha1Kind (closedOf sha1Kind (bodyOf idSize rs ps version count (extensionsFor writes (treeBytes idSize depthLimit ns nm) (o .sparse))) h (offsetOf idSize rs ps) (contents (extensionsFor writes (treeBytes idSize depthLimit ns nm) (o .sparse)))) (o .unhashed))
             → answer out (Done version (b + e)) out₁
         unfolding writeFile
         file-done out fits out₁ q =
-            let f : List ℕ = fileBytes idSize sha1 depthLimit rs ps ns nm o in
-            let k : length (fileBytes idSize sha1 depthLimit rs ps ns nm o) ≤ length out = omega (arith, whole-is) in
+            let f : List ℕ = fileBytes sha1Kind depthLimit rs ps ns nm o in
+            let k : length (fileBytes sha1Kind depthLimit rs ps ns nm o) ≤ length out = omega (arith, whole-is) in
             let z : out₁ ≡ f ++ drop (length f) out = q ∙ ap (λ (x : List ℕ). put out 0 x) same-file ∙ put-front out f in
             (λ j. outcome (Done (known .versioned j) (whole-is j)) (z j))
-            ∙ sym (rw (le-ltb most (recordsIn rs) few-records, le-ltb most (length (bodyBytes idSize depthLimit rs ps ns nm o)) body-small, le-ltb (length out) (length (fileBytes idSize sha1 depthLimit rs ps ns nm o)) k))
+            ∙ sym (rw (le-ltb most (recordsIn rs) few-records, le-ltb most (length (bodyBytes idSize depthLimit rs ps ns nm o)) body-small, le-ltb (length out) (length (fileBytes sha1Kind depthLimit rs ps ns nm o)) k))
 
 -- ---- the whole writer
 
@@ -159,11 +160,11 @@ of-size : (m : First) (v c k v₁ c₁ k₁ : ℕ) → onFirst m (λ i. sized.Ou
 of-size (found i) v c k v₁ c₁ k₁ e = absurd (of-not-outside (sym e))
 of-size nowhere v c k v₁ c₁ k₁ e = (refl, (cc), (cc), (cc))
 
-module _ (rs ps : List ℕ) (a : Sized) (is : a ≡ sizeTable idSize rs ps) where
+module _ (rs : List ℕ) (ps : Paths) (a : Sized) (is : a ≡ sizeTable idSize rs ps) where
   sized-is : a ≡ onFirst (firstFault rs ps (recordsIn rs) 0) (λ i. sized.Outside i) (sized.Of (versionOf rs) (0 + countOf rs (recordsIn rs) 0) (cap (12 + length (tableBytes idSize rs ps))))
   sized-is = is ∙ size-is idSize rs ps (recordsIn rs) 0 2 0 12 (omega arith)
 
-  pub write-outside : (ns nm out : List ℕ) (o : Options) (k : ℕ) → a ≡ sized.Outside k → outcome (PathOutside k) out ≡ writeAll idSize sha1 depthLimit rs ps ns nm o out
+  pub write-outside : (ns nm out : List ℕ) (o : Options) (k : ℕ) → a ≡ sized.Outside k → outcome (PathOutside k) out ≡ writeAll sha1Kind depthLimit rs ps ns nm o out
   unfolding writeAll
   write-outside ns nm out o k q = sym (rw (of-outside (firstFault rs ps (recordsIn rs) 0) (versionOf rs) (0 + countOf rs (recordsIn rs) 0) (cap (12 + length (tableBytes idSize rs ps))) k (sym sized-is ∙ q)))
 
@@ -171,19 +172,19 @@ module _ (rs ps : List ℕ) (a : Sized) (is : a ≡ sizeTable idSize rs ps) wher
     all : (firstFault rs ps (recordsIn rs) 0 ≡ nowhere) × (version ≡ versionOf rs) × (count ≡ 0 + countOf rs (recordsIn rs) 0) × (size ≡ cap (12 + length (tableBytes idSize rs ps)))
     all = of-size (firstFault rs ps (recordsIn rs) 0) (versionOf rs) (0 + countOf rs (recordsIn rs) 0) (cap (12 + length (tableBytes idSize rs ps))) version count size (sym sized-is ∙ q)
 
-    pub write-counted : Counted rs ps version count size
+    pub write-counted : Counted idSize rs ps version count size
     write-counted = record { versioned = all .1; counted = omega (arith, all .2); sized = all .3 }
 
     module _ (ns nm out : List ℕ) (o : Options) (writes : Bool) (ew : writes ≡ writesTree o) (t : Bool) (et : t ≡ treeFits depthLimit ns nm writes) where
       fitting : {u : Bool} → t ≡ u → treeFits depthLimit ns nm (writesTree o) ≡ u
       fitting h = ap (λ (w : Bool). treeFits depthLimit ns nm w) (sym ew) ∙ sym et ∙ h
 
-      pub write-improper : t ≡ false → outcome NotProper out ≡ writeAll idSize sha1 depthLimit rs ps ns nm o out
+      pub write-improper : t ≡ false → outcome NotProper out ≡ writeAll sha1Kind depthLimit rs ps ns nm o out
       unfolding writeAll
       write-improper h = sym (rw (all .0, fitting h))
 
       pub write-fitting : t ≡ true → (r : Answer) (out₁ : List ℕ)
-          → outcome r out₁ ≡ writeTable idSize sha1 depthLimit rs ps ns nm o out → outcome r out₁ ≡ writeAll idSize sha1 depthLimit rs ps ns nm o out
+          → outcome r out₁ ≡ writeTable sha1Kind depthLimit rs ps ns nm o out → outcome r out₁ ≡ writeAll sha1Kind depthLimit rs ps ns nm o out
       unfolding writeAll
       write-fitting h r out₁ e = e ∙ sym (rw (all .0, fitting h))
 

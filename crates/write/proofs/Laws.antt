@@ -12,6 +12,7 @@ use Rattle.sha1.specs.Sha1.{sha1}
 use Rattle.format.specs.Format.{idSize}
 use Rattle.write.specs.File.{extensionHead, treeSignature, sparseSignature, eoieSignature, treeHead, sparsePart, headsOf, eoiePart, trailerOf}
 use Rattle.sha1.specs.Length.{length-sha1}
+use Rattle.kind.specs.Sha1.{sha1Kind}
 use Rattle.write.specs.Parts.{length-head, length-eoie}
 
 -- ---- an extension's head
@@ -116,29 +117,29 @@ module _ (writes : Bool) (size : ℕ) (sparse : Bool) (d : List ℕ) (z : d ≡ 
 -- ---- EOIE
 
 module _ (has : Bool) (offset : ℕ) (toc : List ℕ) where
-  module _ (h : has ≡ true) (k : ℕ) (d : List ℕ) (room : k + length (eoiePart idSize sha1 has offset toc) ≤ length d) where
+  module _ (h : has ≡ true) (k : ℕ) (d : List ℕ) (room : k + length (eoiePart sha1Kind has offset toc) ≤ length d) where
     pub eoie-head-room : k + 8 ≤ length d
-    eoie-head-room = omega (arith, length-eoie has offset toc h)
+    eoie-head-room = omega (arith, length-eoie sha1Kind has offset toc h)
 
     module _ (b : ℕ) (eb : b ≡ k + 8) (d₁ : List ℕ) (e₁ : d₁ ≡ put d k (extensionHead eoieSignature 24)) where
       same₁ : length d₁ ≡ length d
       same₁ = ap length e₁ ∙ length-put d (extensionHead eoieSignature 24) k (omega (arith, length-head eoieSignature 24 refl, eoie-head-room))
 
       pub eoie-offset-room : b + 4 ≤ length d₁
-      eoie-offset-room = omega (arith, length-eoie has offset toc h, same₁)
+      eoie-offset-room = omega (arith, length-eoie sha1Kind has offset toc h, same₁)
 
       -- whatever number was put there
       pub eoie-hash-room : (d₂ : List ℕ) (x : ℕ) → d₂ ≡ paste d₁ b (bytesOf 4 x) 4 → b + 4 + idSize ≤ length d₂
-      eoie-hash-room d₂ x e₂ = omega (arith, length-eoie has offset toc h, same₁, ap length e₂, length-paste d₁ b (bytesOf 4 x) 4 eoie-offset-room (omega (arith, length-bytes 4 x)))
+      eoie-hash-room d₂ x e₂ = omega (arith, length-eoie sha1Kind has offset toc h, same₁, ap length e₂, length-paste d₁ b (bytesOf 4 x) 4 eoie-offset-room (omega (arith, length-bytes 4 x)))
 
   pub eoie-hash : (hash : List ℕ) → hash ≡ sha1 toc → 0 + idSize ≤ length hash
   eoie-hash hash e = omega (arith, ap length e, length-sha1 toc)
 
-  pub eoie-next : has ≡ true → (k b : ℕ) → b ≡ k + 8 → b + 4 + idSize ≡ k + length (eoiePart idSize sha1 has offset toc)
-  eoie-next h k b e = omega (arith, length-eoie has offset toc h)
+  pub eoie-next : has ≡ true → (k b : ℕ) → b ≡ k + 8 → b + 4 + idSize ≡ k + length (eoiePart sha1Kind has offset toc)
+  eoie-next h k b e = omega (arith, length-eoie sha1Kind has offset toc h)
 
-  pub eoie-put : has ≡ true → (d d₁ d₂ d₃ hash : List ℕ) (k b : ℕ) → k + length (eoiePart idSize sha1 has offset toc) ≤ length d → hash ≡ sha1 toc → b ≡ k + 8 → d₁ ≡ put d k (extensionHead eoieSignature 24) → d₂ ≡ paste d₁ b (bytesOf 4 offset) 4 → d₃ ≡ paste d₂ (b + 4) hash idSize
-      → d₃ ≡ put d k (eoiePart idSize sha1 has offset toc)
+  pub eoie-put : has ≡ true → (d d₁ d₂ d₃ hash : List ℕ) (k b : ℕ) → k + length (eoiePart sha1Kind has offset toc) ≤ length d → hash ≡ sha1 toc → b ≡ k + 8 → d₁ ≡ put d k (extensionHead eoieSignature 24) → d₂ ≡ paste d₁ b (bytesOf 4 offset) 4 → d₃ ≡ paste d₂ (b + 4) hash idSize
+      → d₃ ≡ put d k (eoiePart sha1Kind has offset toc)
   unfolding eoiePart
   eoie-put h d d₁ d₂ d₃ hash k b room eh eb e₁ e₂ e₃ =
       let x : List ℕ = extensionHead eoieSignature 24 in
@@ -153,22 +154,22 @@ module _ (has : Bool) (offset : ℕ) (toc : List ℕ) where
       = e₃ ∙ ap (λ (l : List ℕ). paste d₂ (b + 4) l idSize) eh ∙ paste-put d₂ (sha1 toc) (b + 4) idSize (sym (length-sha1 toc)) ∙ (λ j. put (q₂ j) (pe j) (sha1 toc)) ∙ put-put d (x ++ o) (sha1 toc) k low in
       rw h q₃
 
-  pub eoie-none : has ≡ false → (k : ℕ) → k ≡ k + length (eoiePart idSize sha1 has offset toc)
+  pub eoie-none : has ≡ false → (k : ℕ) → k ≡ k + length (eoiePart sha1Kind has offset toc)
   unfolding eoiePart
   eoie-none h k = rw h (omega arith)
 
-  pub eoie-same : has ≡ false → (d : List ℕ) (k : ℕ) → d ≡ put d k (eoiePart idSize sha1 has offset toc)
+  pub eoie-same : has ≡ false → (d : List ℕ) (k : ℕ) → d ≡ put d k (eoiePart sha1Kind has offset toc)
   unfolding eoiePart
   eoie-same h d k = rw h (sym (put-none d k))
 
 -- ---- the trailer
 
 module _ (skips : Bool) (d d₁ : List ℕ) (k : ℕ) where
-  pub trailer-zeros : skips ≡ true → d₁ ≡ paste d k (replicate idSize 0) idSize → d₁ ≡ put d k (trailerOf idSize sha1 skips (take k d))
+  pub trailer-zeros : skips ≡ true → d₁ ≡ paste d k (replicate idSize 0) idSize → d₁ ≡ put d k (trailerOf sha1Kind skips (take k d))
   unfolding trailerOf
   trailer-zeros h e = rw h (e ∙ paste-put d (replicate idSize 0) k idSize (sym (length-replicate {A = ℕ} idSize 0)))
 
-  pub trailer-hash : skips ≡ false → (hash : List ℕ) → hash ≡ sha1 (take k d) → d₁ ≡ paste d k hash idSize → d₁ ≡ put d k (trailerOf idSize sha1 skips (take k d))
+  pub trailer-hash : skips ≡ false → (hash : List ℕ) → hash ≡ sha1 (take k d) → d₁ ≡ paste d k hash idSize → d₁ ≡ put d k (trailerOf sha1Kind skips (take k d))
   unfolding trailerOf
   trailer-hash h hash eh e = rw h (e ∙ ap (λ (l : List ℕ). paste d k l idSize) eh ∙ paste-put d (sha1 (take k d)) k idSize (sym (length-sha1 (take k d))))
 

@@ -12,7 +12,8 @@ use Rattle.laws.specs.Put.{put-then, put, put-none, put-front, length-put, past
 use Rattle.wire.specs.BigEndian.{bytesOf, length-bytes}
 use Rattle.sums.specs.Cap.{cap, cap-fits, cap-cap, cap-cap-right}
 use Rattle.format.specs.Format.{depthLimit, idSize}
-use Rattle.sha1.specs.Sha1.{sha1}
+use Rattle.kind.specs.Sha1.{sha1Kind}
+use Rattle.entry.specs.Paths.{Paths}
 use Rattle.tree_write.specs.Tree.{treeBytes, putFit}
 use Rattle.proper.specs.Proper.{isProper}
 use Rattle.write.specs.declared.Options.{Options}
@@ -107,7 +108,7 @@ header-put d d₁ d₂ d₃ version count room e₁ e₂ e₃ =
 
 -- ---- header and entries
 
-module _ (rs ps : List ℕ) (version count : ℕ) where
+module _ (rs : List ℕ) (ps : Paths) (version count : ℕ) where
   abbrev h : List ℕ
   h = headerOf version count
 
@@ -202,9 +203,9 @@ module _ (skips : Bool) (d e : List ℕ) (k : ℕ) (room : k + (length e + idSiz
     unfolding put
     before = (λ j. take (p₁ j) (e₁ j)) ∙ take-at (take k d ++ e) (drop (k + length e) d) (k + length e) (omega (arith, length-append (take k d) e, length-take-le k d (omega arith)))
 
-    pub end-put : (d₂ : List ℕ) → d₂ ≡ put d₁ k₁ (trailerOf idSize sha1 skips (take k₁ d₁)) → d₂ ≡ put d k (endOf idSize sha1 skips (take k d) e)
+    pub end-put : (d₂ : List ℕ) → d₂ ≡ put d₁ k₁ (trailerOf sha1Kind skips (take k₁ d₁)) → d₂ ≡ put d k (endOf sha1Kind skips (take k d) e)
     unfolding endOf
-    end-put d₂ e₂ = put-then d d₁ d₂ e (trailerOf idSize sha1 skips (take k d ++ e)) k k₁ e₁ p₁ (e₂ ∙ ap (λ (x : List ℕ). put d₁ k₁ (trailerOf idSize sha1 skips x)) before) (omega arith)
+    end-put d₂ e₂ = put-then d d₁ d₂ e (trailerOf sha1Kind skips (take k d ++ e)) k k₁ e₁ p₁ (e₂ ∙ ap (λ (x : List ℕ). put d₁ k₁ (trailerOf sha1Kind skips x)) before) (omega arith)
 
 -- ---- sizes
 
@@ -229,12 +230,12 @@ pub sizes-sum : (front tree h l a b r : ℕ) (writes sparse : Bool) → h ≡ he
 sizes-sum front tree h l a b r writes sparse eh el ea eb er =
     er ∙ (λ j. cap (eb j + el j)) ∙ (λ j. cap (cap (ea j + tree) + headSize sparse)) ∙ ap (λ (x : ℕ). cap (cap (cap (front + x) + tree) + headSize sparse)) eh
 
-pub length-eoie-part : (has : Bool) (offset : ℕ) (toc : List ℕ) → length (eoiePart idSize sha1 has offset toc) + idSize ≡ endSize idSize has
+pub length-eoie-part : (has : Bool) (offset : ℕ) (toc : List ℕ) → length (eoiePart sha1Kind has offset toc) + idSize ≡ endSize idSize has
 unfolding endSize
-length-eoie-part true offset toc = omega (arith, length-eoie true offset toc refl)
+length-eoie-part true offset toc = omega (arith, length-eoie sha1Kind true offset toc refl)
 length-eoie-part false offset toc = omega (arith, eoie-none false offset toc refl 0)
 
-module _ (rs ps ns nm : List ℕ) (version count : ℕ) (writes sparse : Bool) where
+module _ (rs : List ℕ) (ps : Paths) (ns nm : List ℕ) (version count : ℕ) (writes sparse : Bool) where
   abbrev front : List ℕ
   front = frontOf idSize rs ps version count
 
@@ -280,7 +281,7 @@ module _ (rs ps ns nm : List ℕ) (version count : ℕ) (writes sparse : Bool) w
         place : k₂ ≡ length (bodyOf idSize rs ps version count (extensionsFor writes (treeBytes idSize depthLimit ns nm) sparse))
         place = omega (arith, length-body, length-both writes ns nm sparse)
 
-        pub fill-end-room : k₂ + (length (eoiePart idSize sha1 has k₁ (headsOf writes n sparse)) + idSize) ≤ length d₂
+        pub fill-end-room : k₂ + (length (eoiePart sha1Kind has k₁ (headsOf writes n sparse)) + idSize) ≤ length d₂
         fill-end-room = omega (arith, filled₂, place, length-eoie-part has k₁ (headsOf writes n sparse))
 
         laid : d₂ ≡ put d 0 body
@@ -290,18 +291,18 @@ module _ (rs ps ns nm : List ℕ) (version count : ℕ) (writes sparse : Bool) w
         before-end : take k₂ d₂ ≡ body
         before-end = (λ j. take (place j) ((laid ∙ put-front d body) j)) ∙ take-at body (drop (length body) d) (length body) refl
 
-        pub fill-put : (d₃ : List ℕ) → d₃ ≡ put d₂ k₂ (endOf idSize sha1 skips (take k₂ d₂) (eoiePart idSize sha1 has k₁ (headsOf writes n sparse)))
-            → d₃ ≡ put d 0 (fileOf idSize sha1 (closedOf idSize sha1 (bodyOf idSize rs ps version count (extensionsFor writes (treeBytes idSize depthLimit ns nm) sparse)) has (12 + length (tableBytes idSize rs ps)) (contents (extensionsFor writes (treeBytes idSize depthLimit ns nm) sparse))) skips)
+        pub fill-put : (d₃ : List ℕ) → d₃ ≡ put d₂ k₂ (endOf sha1Kind skips (take k₂ d₂) (eoiePart sha1Kind has k₁ (headsOf writes n sparse)))
+            → d₃ ≡ put d 0 (fileOf sha1Kind (closedOf sha1Kind (bodyOf idSize rs ps version count (extensionsFor writes (treeBytes idSize depthLimit ns nm) sparse)) has (12 + length (tableBytes idSize rs ps)) (contents (extensionsFor writes (treeBytes idSize depthLimit ns nm) sparse))) skips)
         unfolding fileOf closedOf endOf
         fill-put d₃ e₃ =
-            let e : List ℕ = eoiePart idSize sha1 has k₁ (headsOf writes n sparse) in
-            let q : d₃ ≡ put d 0 (body ++ (e ++ trailerOf idSize sha1 skips (body ++ e)))
-            = put-then d d₂ d₃ body (e ++ trailerOf idSize sha1 skips (body ++ e)) 0 k₂ laid (omega (arith, place)) (e₃ ∙ ap (λ (x : List ℕ). put d₂ k₂ (e ++ trailerOf idSize sha1 skips (x ++ e))) before-end) (omega arith) in
-            let same : e ≡ eoiePart idSize sha1 has (12 + length (tableBytes idSize rs ps)) (contents (extensionsFor writes (treeBytes idSize depthLimit ns nm) sparse))
-            = λ j. eoiePart idSize sha1 has (p₁ j) (heads-both writes ns nm sparse n en j) in
+            let e : List ℕ = eoiePart sha1Kind has k₁ (headsOf writes n sparse) in
+            let q : d₃ ≡ put d 0 (body ++ (e ++ trailerOf sha1Kind skips (body ++ e)))
+            = put-then d d₂ d₃ body (e ++ trailerOf sha1Kind skips (body ++ e)) 0 k₂ laid (omega (arith, place)) (e₃ ∙ ap (λ (x : List ℕ). put d₂ k₂ (e ++ trailerOf sha1Kind skips (x ++ e))) before-end) (omega arith) in
+            let same : e ≡ eoiePart sha1Kind has (12 + length (tableBytes idSize rs ps)) (contents (extensionsFor writes (treeBytes idSize depthLimit ns nm) sparse))
+            = λ j. eoiePart sha1Kind has (p₁ j) (heads-both writes ns nm sparse n en j) in
             q
-            ∙ ap (λ (x : List ℕ). put d 0 x) (sym (append-assoc body e (trailerOf idSize sha1 skips (body ++ e))))
-            ∙ ap (λ (x : List ℕ). put d 0 ((body ++ x) ++ trailerOf idSize sha1 skips (body ++ x))) same
+            ∙ ap (λ (x : List ℕ). put d 0 x) (sym (append-assoc body e (trailerOf sha1Kind skips (body ++ e))))
+            ∙ ap (λ (x : List ℕ). put d 0 ((body ++ x) ++ trailerOf sha1Kind skips (body ++ x))) same
 
 pub ruleset whole = (tree-given, tree-missing, eoie-unasked, eoie-empty, eoie-tree, eoie-sparse, fits-written, fits-unwritten, length-written, length-unwritten, put-written, put-unwritten, header-put, tree-end, front-header, front-next, front-put, extensions-head, extensions-tree, extensions-sparse, extensions-next, extensions-put, end-eoie, end-trailer, end-put, head-there, head-absent, end-there, end-absent, sizes-sum)
 

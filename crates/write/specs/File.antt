@@ -1,5 +1,5 @@
--- The whole file as it is written (01, Writing, and write.rs, tree/write.rs, end_of_index_entry/write.rs), over the length of an id and its hash: header, entries,
--- the extensions, EOIE and the trailer, one after the other; and what the writer answers. The extensions are one list, and their bytes, their length and what EOIE says of
+-- The whole file as it is written (01, Writing, and write.rs, tree/write.rs, end_of_index_entry/write.rs), over the kind: header, entries, the
+-- extensions, EOIE and the trailer, one after the other; and what the writer answers. The extensions are one list, and their bytes, their length and what EOIE says of
 -- them follow from it. Assumes nothing.
 use Prim.Native.Nat.{ℕ, _+_}
 use mathlib.Core.Bool.{Bool, true, false}
@@ -11,9 +11,11 @@ use Rattle.laws.specs.Pick.{pick}
 use Rattle.laws.specs.Put.{put}
 use Rattle.wire.specs.BigEndian.{bytesOf}
 use Rattle.sums.specs.Cap.{cap}
+use Rattle.entry.specs.Paths.{Paths}
 use Rattle.entry.specs.Record.{recordsIn}
 use Rattle.refusal.specs.Refusal.{path-outside, short-output, too-large, not-proper}
-use Rattle.format.specs.Format.{headerSize, idSize}
+use Rattle.format.specs.Format.{headerSize, extensionHeaderSize, offsetSize, eoieSize, eoieWholeSize}
+use Rattle.kind.specs.Kind.{Kind}
 use Rattle.tree_write.specs.Tree.{treeBytes}
 use Rattle.proper.specs.Proper.{isProper}
 use Rattle.write.specs.declared.Options.{Options}
@@ -66,7 +68,7 @@ extensionsOf (e ∷ es) = (extensionHead (e .signature) (length (e .body)) ++ e 
 -- how many these are
 unfoldable pub extensionsSize : List Extension → ℕ
 extensionsSize [] = 0
-extensionsSize (e ∷ es) = 8 + length (e .body) + extensionsSize es
+extensionsSize (e ∷ es) = extensionHeaderSize + length (e .body) + extensionsSize es
 
 -- their signatures and sizes, which EOIE hashes
 unfoldable pub contents : List Extension → List ℕ
@@ -74,43 +76,43 @@ contents [] = []
 contents (e ∷ es) = extensionHead (e .signature) (length (e .body)) ++ contents es
 
 -- EOIE: where the extensions start, and the hash of their signatures and sizes
-unfoldable pub eoiePart : ℕ → (List ℕ → List ℕ) → Bool → ℕ → List ℕ → List ℕ
-eoiePart id hash has offset toc = pick has ((extensionHead eoieSignature (4 + id) ++ bytesOf 4 offset) ++ hash toc) []
+unfoldable pub eoiePart : Kind → Bool → ℕ → List ℕ → List ℕ
+eoiePart kind has offset toc = pick has ((extensionHead eoieSignature (eoieSize (kind .id)) ++ bytesOf offsetSize offset) ++ kind .hash toc) []
 
-unfoldable pub trailerOf : ℕ → (List ℕ → List ℕ) → Bool → List ℕ → List ℕ
-trailerOf id hash skips before = pick skips (replicate id 0) (hash before)
+unfoldable pub trailerOf : Kind → Bool → List ℕ → List ℕ
+trailerOf kind skips before = pick skips (replicate (kind .id) 0) (kind .hash before)
 
 -- ---- the whole
 
 -- header and entries
-unfoldable pub frontOf : ℕ → List ℕ → List ℕ → ℕ → ℕ → List ℕ
+unfoldable pub frontOf : ℕ → List ℕ → Paths → ℕ → ℕ → List ℕ
 frontOf id rs ps version count = headerOf version count ++ tableBytes id rs ps
 
 -- the bytes before EOIE's place
-unfoldable pub bodyOf : ℕ → List ℕ → List ℕ → ℕ → ℕ → List Extension → List ℕ
+unfoldable pub bodyOf : ℕ → List ℕ → Paths → ℕ → ℕ → List Extension → List ℕ
 bodyOf id rs ps version count es = frontOf id rs ps version count ++ extensionsOf es
 
 -- where the extensions start
-abbrev pub offsetOf : ℕ → List ℕ → List ℕ → ℕ
+abbrev pub offsetOf : ℕ → List ℕ → Paths → ℕ
 offsetOf id rs ps = headerSize + length (tableBytes id rs ps)
 
 -- what stands behind the bytes before EOIE's place
-unfoldable pub endOf : ℕ → (List ℕ → List ℕ) → Bool → List ℕ → List ℕ → List ℕ
-endOf id hash skips body eoie = eoie ++ trailerOf id hash skips (body ++ eoie)
+unfoldable pub endOf : Kind → Bool → List ℕ → List ℕ → List ℕ
+endOf kind skips body eoie = eoie ++ trailerOf kind skips (body ++ eoie)
 
 -- all but the trailer, and all
-unfoldable pub closedOf : ℕ → (List ℕ → List ℕ) → List ℕ → Bool → ℕ → List ℕ → List ℕ
-closedOf id hash body has offset toc = body ++ eoiePart id hash has offset toc
+unfoldable pub closedOf : Kind → List ℕ → Bool → ℕ → List ℕ → List ℕ
+closedOf kind body has offset toc = body ++ eoiePart kind has offset toc
 
-unfoldable pub fileOf : ℕ → (List ℕ → List ℕ) → List ℕ → Bool → List ℕ
-fileOf id hash closed skips = closed ++ trailerOf id hash skips closed
+unfoldable pub fileOf : Kind → List ℕ → Bool → List ℕ
+fileOf kind closed skips = closed ++ trailerOf kind skips closed
 
 -- how long an extension's head is that is there or not, and what stands behind the bytes before EOIE's place
 unfoldable pub headSize : Bool → ℕ
-headSize there = pick there 8 0
+headSize there = pick there extensionHeaderSize 0
 
 unfoldable pub endSize : ℕ → Bool → ℕ
-endSize id has = pick has (12 + id + id) id
+endSize id has = pick has (eoieWholeSize id + id) id
 
 -- ---- what is asked for
 
@@ -134,12 +136,12 @@ treeFits limit ns nm writes = pick writes (isProper limit ns nm) true
 abbrev pub extensionsAsked : ℕ → ℕ → List ℕ → List ℕ → Options → List Extension
 extensionsAsked id limit ns nm o = extensionsFor (writesTree o) (treeBytes id limit ns nm) (o .sparse)
 
-unfoldable pub bodyBytes : ℕ → ℕ → List ℕ → List ℕ → List ℕ → List ℕ → Options → List ℕ
+unfoldable pub bodyBytes : ℕ → ℕ → List ℕ → Paths → List ℕ → List ℕ → Options → List ℕ
 bodyBytes id limit rs ps ns nm o = bodyOf id rs ps (versionOf rs) (countOf rs (recordsIn rs) 0) (extensionsAsked id limit ns nm o)
 
-unfoldable pub fileBytes : ℕ → (List ℕ → List ℕ) → ℕ → List ℕ → List ℕ → List ℕ → List ℕ → Options → List ℕ
-fileBytes id hash limit rs ps ns nm o =
-    fileOf id hash (closedOf id hash (bodyBytes id limit rs ps ns nm o) (hasEoie (recordsIn rs) o) (offsetOf id rs ps) (contents (extensionsAsked id limit ns nm o))) (o .unhashed)
+unfoldable pub fileBytes : Kind → ℕ → List ℕ → Paths → List ℕ → List ℕ → Options → List ℕ
+fileBytes kind limit rs ps ns nm o =
+    fileOf kind (closedOf kind (bodyBytes (kind .id) limit rs ps ns nm o) (hasEoie (recordsIn rs) o) (offsetOf (kind .id) rs ps) (contents (extensionsAsked (kind .id) limit ns nm o))) (o .unhashed)
 
 -- ---- part by part, as the code writes it
 
@@ -168,21 +170,21 @@ extensionsPlanned id limit ns nm h = extensionsFor (h .tree) (treeBytes id limit
 abbrev pub extensionsIn : ℕ → ℕ → List ℕ → List ℕ → Heads → List ℕ
 extensionsIn id limit ns nm h = extensionsOf (extensionsPlanned id limit ns nm h)
 
-abbrev pub planBody : ℕ → ℕ → List ℕ → List ℕ → List ℕ → List ℕ → Plan → List ℕ
+abbrev pub planBody : ℕ → ℕ → List ℕ → Paths → List ℕ → List ℕ → Plan → List ℕ
 planBody id limit rs ps ns nm p = bodyOf id rs ps (p .version) (p .count) (extensionsPlanned id limit ns nm (p .heads))
 
-abbrev pub eoieFor : ℕ → (List ℕ → List ℕ) → Plan → ℕ → List ℕ
-eoieFor id hash p offset = eoiePart id hash (p .eoie) offset (headsIn (p .heads))
+abbrev pub eoieFor : Kind → Plan → ℕ → List ℕ
+eoieFor kind p offset = eoiePart kind (p .eoie) offset (headsIn (p .heads))
 
-abbrev pub planFile : ℕ → (List ℕ → List ℕ) → ℕ → List ℕ → List ℕ → List ℕ → List ℕ → Plan → List ℕ
-planFile id hash limit rs ps ns nm p =
-    fileOf id hash (closedOf id hash (planBody id limit rs ps ns nm p) (p .eoie) (offsetOf id rs ps) (contents (extensionsPlanned id limit ns nm (p .heads)))) (p .unhashed)
+abbrev pub planFile : Kind → ℕ → List ℕ → Paths → List ℕ → List ℕ → Plan → List ℕ
+planFile kind limit rs ps ns nm p =
+    fileOf kind (closedOf kind (planBody (kind .id) limit rs ps ns nm p) (p .eoie) (offsetOf (kind .id) rs ps) (contents (extensionsPlanned (kind .id) limit ns nm (p .heads)))) (p .unhashed)
 
 -- what the sizing pass finds where no record has a fault
-pub record Counted (rs ps : List ℕ) (version count size : ℕ) : Type 0 where
+pub record Counted (id : ℕ) (rs : List ℕ) (ps : Paths) (version count size : ℕ) : Type 0 where
   pub versioned : version ≡ versionOf rs
   pub counted : count ≡ countOf rs (recordsIn rs) 0
-  pub sized : size ≡ cap (headerSize + length (tableBytes idSize rs ps))
+  pub sized : size ≡ cap (headerSize + length (tableBytes id rs ps))
 
 -- ---- the answer
 
@@ -221,11 +223,11 @@ writeFile records version body file out =
     (pick (ltb (length out) (length file)) (outcome (ShortOutput (length file)) out)
     (outcome (Done version (length file)) (file ++ drop (length file) out))))
 
-abbrev pub writeTable : ℕ → (List ℕ → List ℕ) → ℕ → List ℕ → List ℕ → List ℕ → List ℕ → Options → List ℕ → Outcome
-writeTable id hash limit rs ps ns nm o out = writeFile (recordsIn rs) (versionOf rs) (bodyBytes id limit rs ps ns nm o) (fileBytes id hash limit rs ps ns nm o) out
+abbrev pub writeTable : Kind → ℕ → List ℕ → Paths → List ℕ → List ℕ → Options → List ℕ → Outcome
+writeTable kind limit rs ps ns nm o out = writeFile (recordsIn rs) (versionOf rs) (bodyBytes (kind .id) limit rs ps ns nm o) (fileBytes kind limit rs ps ns nm o) out
 
 -- the first record with a fault, a table that is not proper, and then the file
-unfoldable pub writeAll : ℕ → (List ℕ → List ℕ) → ℕ → List ℕ → List ℕ → List ℕ → List ℕ → Options → List ℕ → Outcome
-writeAll id hash limit rs ps ns nm o out =
+unfoldable pub writeAll : Kind → ℕ → List ℕ → Paths → List ℕ → List ℕ → Options → List ℕ → Outcome
+writeAll kind limit rs ps ns nm o out =
     onFirst (firstFault rs ps (recordsIn rs) 0) (λ i. outcome (PathOutside i) out)
-    (pick (treeFits limit ns nm (writesTree o)) (writeTable id hash limit rs ps ns nm o out) (outcome NotProper out))
+    (pick (treeFits limit ns nm (writesTree o)) (writeTable kind limit rs ps ns nm o out) (outcome NotProper out))

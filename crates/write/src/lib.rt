@@ -4,8 +4,9 @@ ghost use Prim.Native.Nat.{_+_, _≤_};
 ghost use lib.ListN.{length, take};
 ghost use Rattle.laws.specs.Put.{put};
 ghost use Rattle.sums.specs.Cap.{cap};
-ghost use Rattle.format.specs.Format.{depthLimit, idSize};
-ghost use Rattle.sha1.specs.Sha1.{sha1};
+ghost use Rattle.format.specs.Format.{depthLimit, idSize, headerSize};
+ghost use Rattle.kind.specs.Sha1.{sha1Kind};
+ghost use Rattle.entry.specs.Paths.{lyingIn};
 ghost use Rattle.write.specs.File.{headerOf, frontOf, extensionsIn, planBody, planFile, eoieFor, offsetOf, endOf, headSize, endSize, most, treeOf, treeFits, writesTree, hasEoie, Puts, Counted, outcome, writeTable, writeAll};
 use extension::Heads;
 use write_entries::Sized;
@@ -25,7 +26,7 @@ pub struct Options {
     pub eoie: bool,
     // the index is sparse, which `sdir` marks
     pub sparse: bool,
-    // 20 zeros stand in the place of the hash
+    // zeros stand in the place of the hash
     pub unhashed: bool,
 }
 
@@ -114,7 +115,7 @@ fn put_tree(nodes: &[u8], names: &[u8], writes: bool, tree: u32, out: &mut [u8],
 }
 
 fn put_header(version: u32, count: u32, out: &mut [u8])
-    requires { ⌜ 12 ≤ length (now out) ⌝ }
+    requires { ⌜ headerSize ≤ length (now out) ⌝ }
     ensures { λ _. ⌜ now (out .exit) ≡ put (now (out .entry)) 0 (headerOf version count) ⌝ }
 {
     let signature = *b"DIRC";
@@ -125,9 +126,9 @@ fn put_header(version: u32, count: u32, out: &mut [u8])
 
 // Writes header and entries, and answers where they end.
 fn fill_front(records: &[u8], paths: &[u8], version: u32, count: u32, out: &mut [u8]) -> usize
-    requires { ⌜ length (frontOf idSize (now records) (now paths) version count) ≤ length (now out) ⌝ }
-    ensures { λ r. ⌜ r ≡ offsetOf idSize (now (records .entry)) (now (paths .entry)) ⌝ }
-    ensures { λ _. ⌜ now (out .exit) ≡ put (now (out .entry)) 0 (frontOf idSize (now (records .entry)) (now (paths .entry)) version count) ⌝ }
+    requires { ⌜ length (frontOf idSize (now records) (lyingIn (now paths)) version count) ≤ length (now out) ⌝ }
+    ensures { λ r. ⌜ r ≡ offsetOf idSize (now (records .entry)) (lyingIn (now (paths .entry))) ⌝ }
+    ensures { λ _. ⌜ now (out .exit) ≡ put (now (out .entry)) 0 (frontOf idSize (now (records .entry)) (lyingIn (now (paths .entry))) version count) ⌝ }
 {
     put_header(version, count, out);
     write_entries::put_entries(records, paths, out, format::HEADER_SIZE)
@@ -148,8 +149,8 @@ fn fill_extensions(nodes: &[u8], names: &[u8], h: Heads, out: &mut [u8], at: usi
 
 // Writes EOIE and the trailer behind the bytes before `at`.
 fn fill_end(p: Plan, offset: u32, out: &mut [u8], at: usize)
-    requires { ⌜ at + (length (eoieFor idSize sha1 p offset) + idSize) ≤ length (now out) ⌝ }
-    ensures { λ _. ⌜ now (out .exit) ≡ put (now (out .entry)) at (endOf idSize sha1 (p .unhashed) (take at (now (out .entry))) (eoieFor idSize sha1 p offset)) ⌝ }
+    requires { ⌜ at + (length (eoieFor sha1Kind p offset) + idSize) ≤ length (now out) ⌝ }
+    ensures { λ _. ⌜ now (out .exit) ≡ put (now (out .entry)) at (endOf sha1Kind (p .unhashed) (take at (now (out .entry))) (eoieFor sha1Kind p offset)) ⌝ }
 {
     let end = extension::put_eoie(p.eoie, offset, p.heads, out, at);
     extension::put_trailer(p.unhashed, out, end);
@@ -158,9 +159,12 @@ fn fill_end(p: Plan, offset: u32, out: &mut [u8], at: usize)
 // Writes the whole file.
 fn fill(records: &[u8], paths: &[u8], nodes: &[u8], names: &[u8], p: Plan, out: &mut [u8])
     requires { ⌜ p .heads .size ≡ length (treeOf idSize depthLimit (now nodes) (now names) (p .heads .tree)) ⌝ }
-    requires { ⌜ offsetOf idSize (now records) (now paths) ≤ most ⌝ }
-    requires { ⌜ length (planBody idSize depthLimit (now records) (now paths) (now nodes) (now names) p) + endSize idSize (p .eoie) ≤ length (now out) ⌝ }
-    ensures { λ _. ⌜ now (out .exit) ≡ put (now (out .entry)) 0 (planFile idSize sha1 depthLimit (now (records .entry)) (now (paths .entry)) (now (nodes .entry)) (now (names .entry)) p) ⌝ }
+    requires { ⌜ offsetOf idSize (now records) (lyingIn (now paths)) ≤ most ⌝ }
+    requires { ⌜ length (planBody idSize depthLimit (now records) (lyingIn (now paths)) (now nodes) (now names) p) + endSize idSize (p .eoie)
+        ≤ length (now out) ⌝ }
+    ensures { λ _. ⌜ now (out .exit)
+        ≡ put (now (out .entry)) 0
+        (planFile sha1Kind depthLimit (now (records .entry)) (lyingIn (now (paths .entry))) (now (nodes .entry)) (now (names .entry)) p) ⌝ }
 {
     let offset = fill_front(records, paths, p.version, p.count, out);
     let end = fill_extensions(nodes, names, p.heads, out, offset);
@@ -172,17 +176,20 @@ fn head_size(there: bool) -> usize
     ensures { λ r. ⌜ r ≡ headSize there ⌝ }
 {
     if there {
-        return 8;
+        return format::EXTENSION_HEADER_SIZE;
     }
     0
 }
+
+// EOIE and the trailer.
+const END_SIZE: usize = format::EOIE_WHOLE_SIZE + format::ID_SIZE;
 
 // How many bytes EOIE, if it is written, and the trailer have.
 fn end_size(has: bool) -> usize
     ensures { λ r. ⌜ r ≡ endSize idSize has ⌝ }
 {
     if has {
-        return 52;
+        return END_SIZE;
     }
     format::ID_SIZE
 }
@@ -208,8 +215,10 @@ fn write_sized(
     t: Totals,
     out: &mut [u8],
 ) -> Answer
-    requires { ⌜ Counted (now records) (now paths) (t .version) (t .count) (t .size) ⌝ }
-    ensures { λ r. ⌜ outcome r (now (out .exit)) ≡ writeTable idSize sha1 depthLimit (now (records .entry)) (now (paths .entry)) (now (nodes .entry)) (now (names .entry)) o (now (out .entry)) ⌝ }
+    requires { ⌜ Counted idSize (now records) (lyingIn (now paths)) (t .version) (t .count) (t .size) ⌝ }
+    ensures { λ r. ⌜ outcome r (now (out .exit))
+        ≡ writeTable sha1Kind depthLimit (now (records .entry)) (lyingIn (now (paths .entry))) (now (nodes .entry)) (now (names .entry)) o
+        (now (out .entry)) ⌝ }
 {
     let n = entry::records_in(records);
     let writes = writes_tree(o);
@@ -255,7 +264,8 @@ pub fn write_to(
     o: Options,
     out: &mut [u8],
 ) -> Answer
-    ensures { λ r. ⌜ outcome r (now (out .exit)) ≡ writeAll idSize sha1 depthLimit (now (records .entry)) (now (paths .entry)) (now (nodes .entry)) (now (names .entry)) o (now (out .entry)) ⌝ }
+    ensures { λ r. ⌜ outcome r (now (out .exit))
+        ≡ writeAll sha1Kind depthLimit (now (records .entry)) (lyingIn (now (paths .entry))) (now (nodes .entry)) (now (names .entry)) o (now (out .entry)) ⌝ }
 {
     let s = write_entries::size_entries(records, paths);
     match s {

@@ -16,6 +16,7 @@ use Rattle.wire.specs.BigEndian.{bytesOf, length-bytes}
 use Rattle.sums.specs.Cap.{cap}
 use Rattle.format.specs.Format.{fixedExtendedSize, fixedSize, fieldsSize, idSize}
 use Rattle.entry.specs.Flags.{bit, extended, removed, toStorage, extendedToStorage}
+use Rattle.entry.specs.Paths.{Paths}
 use Rattle.entry.specs.Record.{recordsIn, flagsAt, liesInside, pathAt}
 use Rattle.write_entries.specs.declared.Sized.{Sized}
 use Rattle.write_entries.specs.declared.Sized.the-variants.{Of, Outside}
@@ -85,7 +86,7 @@ pub past-put : (d bytes : List ℕ) (k : ℕ) → length d < k → (k, d) ≡ pu
 unfolding putOne
 past-put d bytes k h = sym (rw (lt-leb (k + length bytes) (length d) (omega arith)))
 
-module _ (rs ps : List ℕ) (i flags : ℕ) (f : flags ≡ flagsAt rs i) (t : Bool) (e : t ≡ bit removed flags) where
+module _ (rs : List ℕ) (ps : Paths) (i flags : ℕ) (f : flags ≡ flagsAt rs i) (t : Bool) (e : t ≡ bit removed flags) where
   gone : {u : Bool} → t ≡ u → isGone rs i ≡ u
   gone h = ap (λ (x : ℕ). bit removed x) (sym f) ∙ sym e ∙ h
 
@@ -155,7 +156,7 @@ module _ (rs ps : List ℕ) (i flags : ℕ) (f : flags ≡ flagsAt rs i) (t : Bo
 
 -- ---- the sizing pass
 
-module _ (rs ps : List ℕ) (n i version count size : ℕ) (r : Sized) (inv : sizeRun idSize rs ps (n - i) i version count size ≡ r) where
+module _ (rs : List ℕ) (ps : Paths) (n i version count size : ℕ) (r : Sized) (inv : sizeRun idSize rs ps (n - i) i version count size ≡ r) where
   size-end : n ≤ i → Of version count size ≡ r
   unfolding sizeRun
   size-end h = let z : n - i ≡ 0 = omega arith in rw z at inv
@@ -266,12 +267,12 @@ one-long k d bytes = by (leb (k + length bytes) (length d)) refl
     by false q = refl
 
 -- the loop of the filling pass: putting what is left, from the present state, gives the whole answer
-pub record Filling (rs ps out₀ : List ℕ) (from n : ℕ) (out : List ℕ) (k i : ℕ) : Type 0 where
+pub record Filling (rs : List ℕ) (ps : Paths) (out₀ : List ℕ) (from n : ℕ) (out : List ℕ) (k i : ℕ) : Type 0 where
   pub low : i ≤ n
   pub long : length out ≡ length out₀
   pub run : putEntries idSize rs ps (n - i) i k out ≡ putEntries idSize rs ps n 0 from out₀
 
-module _ (rs ps out₀ : List ℕ) (from n : ℕ) where
+module _ (rs : List ℕ) (ps : Paths) (out₀ : List ℕ) (from n : ℕ) where
   pub fill-start : Filling rs ps out₀ from n out₀ from 0
   fill-start = record { low = omega arith; long = refl; run = rw sub-zero }
 
@@ -292,15 +293,15 @@ module _ (rs ps out₀ : List ℕ) (from n : ℕ) where
     fill-end h e = let z : n - i ≡ 0 = omega arith in sym (rw z) ∙ inv .run ∙ ap (λ (m : ℕ). putEntries idSize rs ps m 0 from out₀) e
 
 -- the loop of the sizing pass: sizing what is left, from the present state, gives the whole answer
-pub record Sizing (rs ps : List ℕ) (n version count size i : ℕ) : Type 0 where
+pub record Sizing (rs : List ℕ) (ps : Paths) (n version count size i : ℕ) : Type 0 where
   pub low : i ≤ n
   pub few : count ≤ i
   pub run : sizeRun idSize rs ps (n - i) i version count size ≡ sizeRun idSize rs ps n 0 2 0 12
 
-pub sizing-start : (rs ps : List ℕ) (n : ℕ) → Sizing rs ps n 2 0 12 0
+pub sizing-start : (rs : List ℕ) (ps : Paths) (n : ℕ) → Sizing rs ps n 2 0 12 0
 sizing-start rs ps n = record { low = omega arith; few = omega arith; run = rw sub-zero }
 
-module _ (rs ps : List ℕ) (n version count size i : ℕ) (inv : Sizing rs ps n version count size i) where
+module _ (rs : List ℕ) (ps : Paths) (n version count size i : ℕ) (inv : Sizing rs ps n version count size i) where
   whole-run : n ≡ recordsIn rs → sizeRun idSize rs ps n 0 2 0 12 ≡ sizeTable idSize rs ps
   whole-run e = ap (λ (m : ℕ). sizeRun idSize rs ps m 0 2 0 12) e
 

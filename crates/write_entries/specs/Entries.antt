@@ -13,6 +13,7 @@ use Rattle.sums.specs.Cap.{cap}
 use Rattle.format.specs.Format.{headerSize, longPath}
 use Rattle.entry.specs.Flags.{bit, extended, removed, toStorage, extendedToStorage}
 use Rattle.entry.specs.Layout.{recordSize}
+use Rattle.entry.specs.Paths.{Paths}
 use Rattle.entry.specs.Record.{recordsIn, flagsAt, liesInside, pathAt}
 use Rattle.write_entries.specs.declared.Sized.{Sized}
 use Rattle.write_entries.specs.declared.Sized.the-variants.{Of, Outside}
@@ -24,7 +25,7 @@ abbrev pub isGone : List ℕ → ℕ → Bool
 isGone rs i = bit removed (flagsAt rs i)
 
 -- whether its path does not lie in the store: refusal 12
-unfoldable pub faultOf : List ℕ → List ℕ → List ℕ → ℕ → Bool
+unfoldable pub faultOf : List ℕ → Paths → List ℕ → ℕ → Bool
 faultOf rs ps before i = pick (isGone rs i) false (pick (liesInside rs ps i) false true)
 
 unfoldable pub stated : ℕ → ℕ
@@ -54,25 +55,25 @@ unfoldable pub entryOf : ℕ → List ℕ → ℕ → List ℕ → List ℕ
 entryOf id rs i p = ((frontAt id rs i ++ flagBytes (flagsAt rs i) (length p)) ++ p) ++ replicate (padOf (fixedOf id (flagsAt rs i)) (length p)) 0
 
 -- what is written of record i
-unfoldable pub recordBytes : ℕ → List ℕ → List ℕ → List ℕ → ℕ → List ℕ
+unfoldable pub recordBytes : ℕ → List ℕ → Paths → List ℕ → ℕ → List ℕ
 recordBytes id rs ps before i = pick (isGone rs i) [] (entryOf id rs i (pathAt rs ps i))
 
 -- ---- the table
 
 -- the path written before record i
-unfoldable pub beforeAt : List ℕ → List ℕ → ℕ → List ℕ
+unfoldable pub beforeAt : List ℕ → Paths → ℕ → List ℕ
 beforeAt rs ps zero = []
 beforeAt rs ps (suc i) = pick (isGone rs i) (beforeAt rs ps i) (pathAt rs ps i)
 
 -- what is wrong with record i of the table, and what is written of it
-abbrev pub faultAt : List ℕ → List ℕ → ℕ → Bool
+abbrev pub faultAt : List ℕ → Paths → ℕ → Bool
 faultAt rs ps i = faultOf rs ps (beforeAt rs ps i) i
 
-abbrev pub bytesAt : ℕ → List ℕ → List ℕ → ℕ → List ℕ
+abbrev pub bytesAt : ℕ → List ℕ → Paths → ℕ → List ℕ
 bytesAt id rs ps i = recordBytes id rs ps (beforeAt rs ps i) i
 
 -- n records from i on
-unfoldable pub entriesBytes : ℕ → List ℕ → List ℕ → ℕ → ℕ → List ℕ
+unfoldable pub entriesBytes : ℕ → List ℕ → Paths → ℕ → ℕ → List ℕ
 entriesBytes id rs ps zero i = []
 entriesBytes id rs ps (suc n) i = bytesAt id rs ps i ++ entriesBytes id rs ps n (i + 1)
 
@@ -98,7 +99,7 @@ pub data First : Type 0 where
   found : ℕ → First
   nowhere : First
 
-unfoldable pub firstFault : List ℕ → List ℕ → ℕ → ℕ → First
+unfoldable pub firstFault : List ℕ → Paths → ℕ → ℕ → First
 firstFault rs ps zero i = nowhere
 firstFault rs ps (suc n) i = pick (faultAt rs ps i) (found i) (firstFault rs ps n (i + 1))
 
@@ -108,16 +109,16 @@ onFirst nowhere f x = x
 
 -- ---- the sizing pass, record by record
 
-unfoldable pub sizeRun : ℕ → List ℕ → List ℕ → ℕ → ℕ → ℕ → ℕ → ℕ → Sized
+unfoldable pub sizeRun : ℕ → List ℕ → Paths → ℕ → ℕ → ℕ → ℕ → ℕ → Sized
 sizeRun id rs ps zero i version count size = Of version count size
 sizeRun id rs ps (suc n) i version count size =
     pick (faultAt rs ps i) (Outside i)
     (sizeRun id rs ps n (i + 1) (versionWith (flagsAt rs i) version) (count + keptOf rs i) (cap (size + length (bytesAt id rs ps i))))
 
-abbrev pub sizeTable : ℕ → List ℕ → List ℕ → Sized
+abbrev pub sizeTable : ℕ → List ℕ → Paths → Sized
 sizeTable id rs ps = sizeRun id rs ps (recordsIn rs) 0 2 0 headerSize
 
-abbrev pub tableBytes : ℕ → List ℕ → List ℕ → List ℕ
+abbrev pub tableBytes : ℕ → List ℕ → Paths → List ℕ
 tableBytes id rs ps = entriesBytes id rs ps (recordsIn rs) 0
 
 -- ---- the filling pass, record by record
@@ -127,9 +128,9 @@ unfoldable pub putOne : ℕ → List ℕ → List ℕ → ℕ × List ℕ
 putOne at out bytes = pick (leb (at + length bytes) (length out)) (at + length bytes, put out at bytes) (at, out)
 
 -- n records from i on, each put where the one before ends
-unfoldable pub putEntries : ℕ → List ℕ → List ℕ → ℕ → ℕ → ℕ → List ℕ → ℕ × List ℕ
+unfoldable pub putEntries : ℕ → List ℕ → Paths → ℕ → ℕ → ℕ → List ℕ → ℕ × List ℕ
 putEntries id rs ps zero i at out = (at, out)
 putEntries id rs ps (suc n) i at out = putEntries id rs ps n (i + 1) (putOne at out (bytesAt id rs ps i) .0) (putOne at out (bytesAt id rs ps i) .1)
 
-abbrev pub putTable : ℕ → List ℕ → List ℕ → ℕ → List ℕ → ℕ × List ℕ
+abbrev pub putTable : ℕ → List ℕ → Paths → ℕ → List ℕ → ℕ × List ℕ
 putTable id rs ps at out = putEntries id rs ps (recordsIn rs) 0 at out

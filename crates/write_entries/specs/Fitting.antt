@@ -10,6 +10,7 @@ use lib.ListN.{length, length-append}
 use borrow.Author.Tests.{le-leb}
 use Rattle.laws.specs.Pick.{pick}
 use Rattle.laws.specs.Put.{put, put-none, put-put, length-put}
+use Rattle.entry.specs.Paths.{Paths}
 use Rattle.entry.specs.Record.{recordsIn}
 use Rattle.write_entries.specs.Entries.{bytesAt, entriesBytes, tableBytes, putOne, putEntries, putTable}
 
@@ -17,7 +18,7 @@ pub one-fits : (at : ℕ) (out bytes : List ℕ) → at + length bytes ≤ lengt
 unfolding putOne
 one-fits at out bytes room = rw (le-leb (at + length bytes) (length out) room)
 
-module _ (id : ℕ) (rs ps : List ℕ) where
+module _ (id : ℕ) (rs : List ℕ) (ps : Paths) where
   entries-fit : (n i at : ℕ) (out : List ℕ) → at + length (entriesBytes id rs ps n i) ≤ length out
       → putEntries id rs ps n i at out ≡ (at + length (entriesBytes id rs ps n i), put out at (entriesBytes id rs ps n i))
   unfolding putEntries entriesBytes

@@ -11,6 +11,7 @@ use Rattle.laws.specs.Lists.{length-part}
 use Rattle.wire.specs.BigEndian.{bytesOf, length-bytes}
 use Rattle.sums.specs.Cap.{largest, cap, cap-fits, cap-small, cap-cap}
 use Rattle.entry.specs.Flags.{bit, extended, toStorage, extendedToStorage}
+use Rattle.entry.specs.Paths.{Paths}
 use Rattle.entry.specs.Record.{recordsIn, flagsAt}
 use Rattle.write_entries.specs.declared.Sized.{Sized}
 use Rattle.write_entries.specs.declared.Sized.the-variants.{Of, Outside}
@@ -53,7 +54,7 @@ three : (t : Bool) → _≡_ {A = ℕ} (pick t 3 3) 3
 three true = refl
 three false = refl
 
-module _ (id : ℕ) (rs ps : List ℕ) where
+module _ (id : ℕ) (rs : List ℕ) (ps : Paths) where
   abbrev plain : ℕ → ℕ → ℕ → ℕ → ℕ → Sized
   plain n i version count size = onFirst (firstFault rs ps n i) Outside (Of (pick (anyExtended rs n i) 3 version) (count + countOf rs n i) (cap (size + length (entriesBytes id rs ps n i))))
 

@@ -7,6 +7,7 @@ ghost use Rattle.laws.specs.Put.{put};
 ghost use Rattle.wire.specs.BigEndian.{bytesOf};
 ghost use Rattle.format.specs.Format.{idSize};
 ghost use Rattle.entry.specs.Flags.{toStorage, extendedToStorage};
+ghost use Rattle.entry.specs.Paths.{lyingIn};
 ghost use Rattle.entry.specs.Record.{recordsIn, flagsAt};
 ghost use Rattle.write_entries.specs.Entries.{faultAt, stated, fixedOf, frontAt, wholeOf, entryOf, bytesAt, keptOf, versionWith, sizeTable, putOne, putTable};
 
@@ -53,7 +54,7 @@ fn entry_size(flags: u32, path: &[u8]) -> usize
 
 // Whether record i is to be written and its path does not lie in the store.
 fn record_fault(records: &[u8], paths: &[u8], i: usize) -> bool
-    ensures { λ r. ⌜ r ≡ faultAt (now (records .entry)) (now (paths .entry)) i ⌝ }
+    ensures { λ r. ⌜ r ≡ faultAt (now (records .entry)) (lyingIn (now (paths .entry))) i ⌝ }
 {
     let flags = entry::flags_at(records, i);
     if entry::flags::is_removed(flags) {
@@ -68,7 +69,7 @@ fn record_fault(records: &[u8], paths: &[u8], i: usize) -> bool
 // How many bytes are written of record i.
 fn record_size(records: &[u8], paths: &[u8], i: usize) -> usize
     requires { ⌜ i < recordsIn (now records) ⌝ }
-    ensures { λ r. ⌜ r ≡ length (bytesAt idSize (now (records .entry)) (now (paths .entry)) i) ⌝ }
+    ensures { λ r. ⌜ r ≡ length (bytesAt idSize (now (records .entry)) (lyingIn (now (paths .entry))) i) ⌝ }
 {
     let flags = entry::flags_at(records, i);
     if entry::flags::is_removed(flags) {
@@ -102,7 +103,7 @@ fn version_with(flags: u32, version: u32) -> u32
 
 // Sizes the whole table, or finds the first record with a fault.
 pub fn size_entries(records: &[u8], paths: &[u8]) -> Sized
-    ensures { λ r. ⌜ r ≡ sizeTable idSize (now (records .entry)) (now (paths .entry)) ⌝ }
+    ensures { λ r. ⌜ r ≡ sizeTable idSize (now (records .entry)) (lyingIn (now (paths .entry))) ⌝ }
 {
     let n = entry::records_in(records);
     let mut version: u32 = 2;
@@ -165,7 +166,7 @@ fn put_entry(records: &[u8], path: &[u8], i: usize, flags: u32, out: &mut [u8], 
 // Writes what is written of record i at `at` if it fits, and answers where it ends; else nothing, and answers `at`.
 fn put_record(records: &[u8], paths: &[u8], i: usize, out: &mut [u8], at: usize) -> usize
     requires { ⌜ i < recordsIn (now records) ⌝ }
-    ensures { λ r. ⌜ (r, now (out .exit)) ≡ putOne at (now (out .entry)) (bytesAt idSize (now (records .entry)) (now (paths .entry)) i) ⌝ }
+    ensures { λ r. ⌜ (r, now (out .exit)) ≡ putOne at (now (out .entry)) (bytesAt idSize (now (records .entry)) (lyingIn (now (paths .entry))) i) ⌝ }
 {
     let flags = entry::flags_at(records, i);
     if entry::flags::is_removed(flags) {
@@ -184,7 +185,7 @@ fn put_record(records: &[u8], paths: &[u8], i: usize, out: &mut [u8], at: usize)
 
 // Writes every entry from `from` on, each if it fits, and answers where the last ends.
 pub fn put_entries(records: &[u8], paths: &[u8], out: &mut [u8], from: usize) -> usize
-    ensures { λ r. ⌜ (r, now (out .exit)) ≡ putTable idSize (now (records .entry)) (now (paths .entry)) from (now (out .entry)) ⌝ }
+    ensures { λ r. ⌜ (r, now (out .exit)) ≡ putTable idSize (now (records .entry)) (lyingIn (now (paths .entry))) from (now (out .entry)) ⌝ }
 {
     let n = entry::records_in(records);
     let mut at = from;

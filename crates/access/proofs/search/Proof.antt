@@ -2,6 +2,7 @@
 use Rattle.access.proofs.Laws.{laws}
 use mathlib.Core.Path.{_≡_}
 use Prim.Native.Nat.{_+_, _-_, _≤_}
+use Rattle.entry.specs.Paths.{lyingIn}
 use Rattle.entry.specs.Record.{recordsIn}
 use Rattle.access.specs.Lookup.{probeAt, halve, searchAt}
 use borrow.Author.Needs.{needs}
@@ -10,7 +11,7 @@ use Rattle.access.proofs.search.Tie as tie
 
 abbrev Inv-loop : tie.InvT-loop
 Inv-loop records paths key stage n low₀ high₀ compared₀ low high compared =
-    (n ≡ recordsIn records) × (high ≤ n) × (high - low + compared ≤ n) × (halve (probeAt records paths key stage) (n - compared) low high compared ≡ searchAt records paths key stage)
+    (n ≡ recordsIn records) × (high ≤ n) × (high - low + compared ≤ n) × (halve (probeAt records (lyingIn paths) key stage) (n - compared) low high compared ≡ searchAt records (lyingIn paths) key stage)
 
 abbrev μ-loop : tie.MeasureT-loop
 μ-loop records paths key stage n low₀ high₀ compared₀ low high compared = high - low

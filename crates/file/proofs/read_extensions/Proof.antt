@@ -4,8 +4,8 @@ use borrow.Author.Needs.{needs}
 use Rattle.file.proofs.read_extensions.Statement.{statement}
 use Rattle.file.proofs.read_extensions.Tie as tie
 
-walk-requires : tie.Need-walk-requires
-walk-requires c κs = search (walks, needs)
+all-requires : tie.Need-all-requires
+all-requires c κs = search (walks, needs)
 
 enum-known-w : tie.Need-enum-known-w
 enum-known-w c = search (walks, needs)
@@ -53,7 +53,7 @@ pub read-extensions-spec : {M : Type 1} → statement M
 read-extensions-spec =
     tie.close
     (tie.spec
-    walk-requires
+    all-requires
     enum-known-w
     enum-known-w-2
     enum-known-w-3

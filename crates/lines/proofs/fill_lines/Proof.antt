@@ -6,6 +6,7 @@ use Rattle.laws.specs.Put.{put}
 use Rattle.lines.specs.Lines.{linesFrom}
 use borrow.Author.Needs.{needs}
 use Rattle.format.specs.Format.{idSize}
+use Rattle.entry.specs.Paths.{lyingIn}
 use Rattle.lines.proofs.Laws.{laws}
 use Rattle.lines.proofs.fill_lines.Statement.{statement}
 use Rattle.lines.proofs.fill_lines.Tie as tie
@@ -13,8 +14,8 @@ use Rattle.lines.proofs.fill_lines.Tie as tie
 abbrev Inv-loop : tie.InvT-loop
 Inv-loop records paths n out₀ at₀ i₀ out at i =
     ((i ≤ n) × (length out ≡ length out₀))
-    × ((at + length (linesFrom idSize records paths (n - i) i) ≤ length out)
-    × (put out at (linesFrom idSize records paths (n - i) i) ≡ put out₀ 0 (linesFrom idSize records paths n 0)))
+    × ((at + length (linesFrom idSize records (lyingIn paths) (n - i) i) ≤ length out)
+    × (put out at (linesFrom idSize records (lyingIn paths) (n - i) i) ≡ put out₀ 0 (linesFrom idSize records (lyingIn paths) n 0)))
 
 abbrev μ-loop : tie.MeasureT-loop
 μ-loop records paths n out₀ at₀ i₀ out at i = n - i

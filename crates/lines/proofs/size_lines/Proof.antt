@@ -6,12 +6,13 @@ use lib.ListN.{length}
 use Rattle.lines.specs.Lines.{linesFrom}
 use borrow.Author.Needs.{needs}
 use Rattle.format.specs.Format.{idSize}
+use Rattle.entry.specs.Paths.{lyingIn}
 use Rattle.lines.proofs.Laws.{laws}
 use Rattle.lines.proofs.size_lines.Statement.{statement}
 use Rattle.lines.proofs.size_lines.Tie as tie
 
 abbrev Inv-loop : tie.InvT-loop
-Inv-loop records paths n size₀ i₀ size i = ((i ≤ n) × (size ≤ 18446744073709551615)) × (cap (size + length (linesFrom idSize records paths (n - i) i)) ≡ cap (length (linesFrom idSize records paths n 0)))
+Inv-loop records paths n size₀ i₀ size i = ((i ≤ n) × (size ≤ 18446744073709551615)) × (cap (size + length (linesFrom idSize records (lyingIn paths) (n - i) i)) ≡ cap (length (linesFrom idSize records (lyingIn paths) n 0)))
 
 abbrev μ-loop : tie.MeasureT-loop
 μ-loop records paths n size₀ i₀ size i = n - i

@@ -5,6 +5,7 @@ use native.Mathlib.Omega.{arith}
 use Rattle.lines.proofs.Laws.{laws}
 use borrow.Author.Needs.{needs}
 use Rattle.format.specs.Format.{idSize}
+use Rattle.entry.specs.Paths.{lyingIn}
 use Rattle.lines.proofs.write_records.Statement.{statement}
 use Rattle.lines.proofs.write_records.Tie as tie
 
@@ -15,7 +16,7 @@ returns : tie.Need-returns
 returns c = search (laws, needs)
 
 fill-lines-requires : tie.Need-fill-lines-requires
-fill-lines-requires c κs = let start = c .before .before .before .before .before .before in text-fits (linesFrom idSize (start .args .records .now) (start .args .paths .now) (start .args .n) 0) (start .args .out .now) _ (c .before .before .size-lines .ensures) (c .before .if1 .left) (omega arith)
+fill-lines-requires c κs = let start = c .before .before .before .before .before .before in text-fits (linesFrom idSize (start .args .records .now) (lyingIn (start .args .paths .now)) (start .args .n) 0) (start .args .out .now) _ (c .before .before .size-lines .ensures) (c .before .if1 .left) (omega arith)
 
 same-length : tie.Need-same-length
 same-length c = search (laws, needs)

@@ -3,7 +3,7 @@ use mathlib.Core.Path.{sym}
 use native.Mathlib.Omega.{arith}
 use lib.Seq.{length-take-le}
 use borrow.Author.Needs.{needs}
-use Rattle.listing.specs.Fits.{listing-within}
+use Rattle.list_text.specs.Fits.{listing-within}
 use Rattle.list.proofs.print.Statement.{statement}
 use Rattle.list.proofs.print.Tie as tie
 

@@ -1,5 +1,6 @@
 use Prim.Native.Nat.{_-_}
 use borrow.Author.Needs.{needs}
+use Rattle.entry.specs.Paths.{lyingIn}
 use Rattle.write_entries.proofs.Laws.{laws, Filling}
 use Rattle.write_entries.proofs.put_entries.Statement.{statement}
 use Rattle.write_entries.proofs.put_entries.Tie as tie
@@ -9,7 +10,7 @@ use Rattle.entry.proofs.records_in.Reads as records-in-reads
 use Rattle.write_entries.proofs.put_record.Reads as put-record-reads
 
 abbrev Inv-loop : tie.InvT-loop
-Inv-loop records paths out₀ from n at₀ i₀ out at i = Filling records paths out₀ from n out at i
+Inv-loop records paths out₀ from n at₀ i₀ out at i = Filling records (lyingIn paths) out₀ from n out at i
 
 abbrev μ-loop : tie.MeasureT-loop
 μ-loop records paths out₀ from n at₀ i₀ out at i = n - i

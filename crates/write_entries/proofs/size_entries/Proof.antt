@@ -9,13 +9,14 @@ use Rattle.write_entries.proofs.size_entries.Lts as lts
 use Rattle.entry.proofs.flags_at.Reads as flags-at-reads
 use Rattle.entry.proofs.records_in.Reads as records-in-reads
 use Rattle.sums.proofs.saturating_add.Reads as saturating-add-reads
+use Rattle.entry.specs.Paths.{lyingIn}
 use Rattle.write_entries.proofs.kept_of.Reads as kept-of-reads
 use Rattle.write_entries.proofs.record_fault.Reads as record-fault-reads
 use Rattle.write_entries.proofs.record_size.Reads as record-size-reads
 use Rattle.write_entries.proofs.version_with.Reads as version-with-reads
 
 abbrev Inv-loop : tie.InvT-loop
-Inv-loop records paths n version₀ count₀ size₀ i₀ version count size i = Sizing records paths n version count size i
+Inv-loop records paths n version₀ count₀ size₀ i₀ version count size i = Sizing records (lyingIn paths) n version count size i
 
 abbrev μ-loop : tie.MeasureT-loop
 μ-loop records paths n version₀ count₀ size₀ i₀ version count size i = n - i

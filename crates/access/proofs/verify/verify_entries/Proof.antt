@@ -2,6 +2,7 @@
 use Rattle.access.proofs.Laws.{laws}
 use mathlib.Core.Path.{_≡_}
 use Prim.Native.Nat.{_-_}
+use Rattle.entry.specs.Paths.{lyingIn}
 use Rattle.entry.specs.Record.{recordsIn}
 use Rattle.access.specs.Verify.{verifyFrom, verifyAt}
 use borrow.Author.Needs.{needs}
@@ -9,7 +10,7 @@ use Rattle.access.proofs.verify.verify_entries.Statement.{statement}
 use Rattle.access.proofs.verify.verify_entries.Tie as tie
 
 abbrev Inv-loop : tie.InvT-loop
-Inv-loop records paths n i₀ i = (n ≡ recordsIn records) × (verifyFrom records paths (n - i) i ≡ verifyAt records paths)
+Inv-loop records paths n i₀ i = (n ≡ recordsIn records) × (verifyFrom records (lyingIn paths) (n - i) i ≡ verifyAt records (lyingIn paths))
 
 abbrev μ-loop : tie.MeasureT-loop
 μ-loop records paths n i₀ i = n - i

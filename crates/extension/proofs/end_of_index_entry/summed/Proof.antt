@@ -4,12 +4,13 @@ use mathlib.Core.Path.{_≡_}
 use Rattle.extension.specs.Iter.{runAt}
 use Rattle.extension.specs.EndOfIndexEntry.{priorAt}
 use borrow.Author.Needs.{needs}
+use Rattle.kind.specs.Sha1.{sha1Kind}
 use Rattle.extension.proofs.Laws.{priors, leftOver}
 use Rattle.extension.proofs.end_of_index_entry.summed.Statement.{statement}
 use Rattle.extension.proofs.end_of_index_entry.summed.Tie as tie
 
 abbrev Inv-loop : tie.InvT-loop
-Inv-loop file here₀ digest₀ last₀ here digest last = leftOver file digest last (runAt file (here .at .0) (here .end .0)) ≡ priorAt file (here₀ .at .0) (here₀ .end .0)
+Inv-loop file here₀ digest₀ last₀ here digest last = leftOver file digest last (runAt file (here .at .0) (here .end .0)) ≡ priorAt sha1Kind file (here₀ .at .0) (here₀ .end .0)
 
 abbrev μ-loop : tie.MeasureT-loop
 μ-loop file here₀ digest₀ last₀ here digest last = here .end .0 - here .at .0

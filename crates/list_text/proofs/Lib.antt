@@ -1,0 +1,2 @@
+-- The modules of list_text that proofs cite.
+pub mod Laws

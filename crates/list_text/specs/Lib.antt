@@ -1,0 +1,3 @@
+-- The modules of list_text that contracts and proofs cite.
+pub mod Listed
+pub mod Fits

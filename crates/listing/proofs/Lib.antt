@@ -1,2 +1,0 @@
--- The modules of listing that proofs cite.
-pub mod Laws
