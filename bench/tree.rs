@@ -1,6 +1,6 @@
 // Measures the proved reader of TREE against the Rust's `tree::decode`: 20,000 folders in three levels, and one folder with 20,000 subfolders, in byte order and in
-// git's own. Both are run alternately, each in short runs of which the best counts. The last line has two of the subfolders exchanged, so that no order settles the
-// names and each is compared with all before it. `bench/tree` builds and runs this.
+// git's own. Both are run alternately, each in short runs of which the best counts. The last lines have two of the subfolders exchanged, and 2,000,000 in no order, so
+// that no order settles the names and they are sorted. `bench/tree` builds and runs this.
 mod clock;
 use clock::seconds;
 
@@ -32,13 +32,16 @@ fn main() {
     shorter.sort_by(|a, b| (a.len(), a).cmp(&(b.len(), b)));
     let mut exchanged = shorter.clone();
     exchanged.swap(0, 19999);
+    // each number below 2,000,000 once: 1,234,567 has no factor in common with that
+    let mixed: Vec<String> = (0..2000000usize).map(|i| format!("d{}", i * 1234567 % 2000000)).collect();
     for (what, body, rounds) in [
         ("20,000 folders", spread, 50),
         ("20,000 subfolders, byte order", leaves(&rising), 50),
         ("20,000 subfolders, git's order", leaves(&shorter), 50),
-        ("20,000 subfolders, two exchanged", leaves(&exchanged), 1),
+        ("20,000 subfolders, two exchanged", leaves(&exchanged), 20),
+        ("2,000,000 subfolders, no order", leaves(&mixed), 1),
     ] {
-        let mut nodes = vec![0u8; 72 * 21000];
+        let mut nodes = vec![0u8; 72 * if rounds == 1 { 2000001 } else { 21000 }];
         let (mut ours, mut rust, mut used) = (f64::MAX, f64::MAX, 0);
         for _ in 0..rounds {
             ours = ours.min(seconds(|| {

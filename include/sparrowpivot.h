@@ -10,6 +10,10 @@
  *
  * Answers. `values` are eight numbers of 64 bits; all eight are always written, and those that no comment names are 0. "0 or 1" is no or yes. A function that
  * returns uint32_t returns 0 on success, and otherwise a number of `enum sparrowpivot_refusal`.
+ *
+ * Time. Whatever bytes are lent, a call takes time that grows with their number times its logarithm. A path counts as often as a record names it, and a name as
+ * often as a node does; and a file of version 4 can spell out paths of the square of its size, of which no more are read than there is room for. What costs more
+ * is said below: some node tables when they are written, and the pairs of an IEOT when they are asked for one after the other.
  */
 #ifndef SPARROWPIVOT_H
 #define SPARROWPIVOT_H
@@ -97,6 +101,10 @@ void sparrowpivot_sha1(const uint8_t *bytes, size_t bytes_len, uint8_t out[SPARR
  * `names` are looked at only where TREE is written. Siblings are written in byte order of name.
  * A node table is proper if it is not empty, node 0 alone has no parent, every other parent is an earlier node, subtree counts agree with the parents, counts are -1 to
  * 2^31 - 1, names of siblings differ, names lie in `names` and hold no NUL, and the depth is at most 64.
+ * Which node tables are quick: those in which all that is below a node stands right behind it, as in a table that was read, and siblings stand in byte order of
+ * name or in git's own, shorter names first (of at most 64 lengths); such a table costs its nodes times its depth. A folder whose siblings stand otherwise costs the
+ * square of the nodes below it, and a table whose nodes do the square of the number of its nodes. As what is written is the same in any order, put a table that
+ * came from a stranger into byte order first; the crate of host/ does.
  * 0: version; size. Or 12, 16, 15 or 14: the first in this order that applies. An output of 0 bytes asks for the size, by 14.
  */
 uint32_t sparrowpivot_write(const uint8_t *records, size_t records_len, const uint8_t *paths, size_t paths_len, const uint8_t *nodes, size_t nodes_len,
@@ -110,7 +118,10 @@ uint32_t sparrowpivot_eoie(const uint8_t *file, size_t file_len, uint64_t values
 /* IEOT, the first among the extensions that begin at `offset`. 0 or 1, there is one; how many pairs it has. */
 uint32_t sparrowpivot_ieot_count(const uint8_t *file, size_t file_len, size_t offset, uint64_t values[SPARROWPIVOT_VALUES]);
 
-/* Pair number k of it, counted from 0. 0 or 1, there is one; the place in the file at which its block of entries begins; how many entries that block has. */
+/*
+ * Pair number k of it, counted from 0. 0 or 1, there is one; the place in the file at which its block of entries begins; how many entries that block has.
+ * Each call walks from `offset` over the extensions before the IEOT: who asks for many pairs passes the place of the IEOT itself, and then none is walked over.
+ */
 uint32_t sparrowpivot_ieot_pair(const uint8_t *file, size_t file_len, size_t offset, size_t k, uint64_t values[SPARROWPIVOT_VALUES]);
 
 /* ---- Tables */

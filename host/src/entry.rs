@@ -180,7 +180,12 @@ impl<'a> Entries<'a> {
         Entries { records, paths, left: 0..records.len() / RECORD_SIZE }
     }
 
-    /// How many entries have a path that passes a test, if those that do all come first.
+    /// Those at some of the places that are left.
+    pub(crate) fn part(&self, places: Range<usize>) -> Entries<'a> {
+        Entries { left: places, ..self.clone() }
+    }
+
+    /// The place behind the entries whose path passes a test, if those that do all come first.
     pub(crate) fn split(&self, passes: impl Fn(&[u8]) -> bool) -> usize {
         let Range { start: mut low, end: mut high } = self.left;
         while low < high {

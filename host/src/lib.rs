@@ -33,6 +33,7 @@
     )
 )]
 
+mod by_name;
 mod declarations;
 mod entry;
 mod error;
@@ -50,5 +51,5 @@ pub use error::{Error, Refusal};
 pub use extension::{Extension, Extensions};
 pub use id::Id;
 pub use index::{Index, Trailer};
-pub use tree::{Node, Nodes, Tree, TreeFault};
+pub use tree::{Folders, Node, Nodes, Tree, TreeFault};
 pub use write::WriteOptions;

@@ -62,11 +62,12 @@ fn read_into(file: &[u8], rooms: Rooms) -> Result<Result<(Values, Stores), Refus
     }))
 }
 
-/// A store of so many bytes, or the error that there is no memory for it.
-pub(crate) fn store(bytes: usize, fill: u8) -> Result<Vec<u8>, Error> {
+/// A store of so many items, bytes or others, or the error that there is no memory for it.
+pub(crate) fn store<T: Clone>(count: usize, fill: T) -> Result<Vec<T>, Error> {
     let mut store = Vec::new();
-    store.try_reserve_exact(bytes).map_err(|_| Error::OutOfMemory { bytes })?;
-    store.resize(bytes, fill);
+    let bytes = count.saturating_mul(std::mem::size_of::<T>());
+    store.try_reserve_exact(count).map_err(|_| Error::OutOfMemory { bytes })?;
+    store.resize(count, fill);
     Ok(store)
 }
 

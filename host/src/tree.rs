@@ -1,5 +1,7 @@
 //! The tree: what git last knew of each folder, the extension TREE.
+use std::cmp::Ordering;
 use std::fmt;
+use std::iter::Enumerate;
 use std::ops::Range;
 
 use crate::declarations::NODE_SIZE;
@@ -76,7 +78,8 @@ impl<'a> Tree<'a> {
     }
 
     /// The path of node i from the top of the work tree; the root's is empty, and so is that of a node that is not
-    /// there.
+    /// there. It is put together of the names of all folders above; for the paths of all nodes take
+    /// [`folders`](Tree::folders).
     pub fn path(&self, i: usize) -> Vec<u8> {
         let mut names = Vec::new();
         let mut at = self.node(i);
@@ -88,22 +91,98 @@ impl<'a> Tree<'a> {
         names.join(&b'/')
     }
 
-    /// Whether as many entries lie below each folder as it says, in a table that is in order.
+    /// The paths of all nodes, in the order of the file.
+    pub fn folders(&self) -> Folders<'a> {
+        Folders { nodes: self.nodes().enumerate(), path: Vec::new(), above: Above(Vec::new()) }
+    }
+
+    /// Whether as many entries lie below each folder as it says, in a table that is in order. They are looked for among
+    /// those below the folder above, whose path they all have in common, so that no path is passed over again.
     pub(crate) fn check(&self, entries: &Entries<'_>) -> Result<(), TreeFault> {
+        let mut above = Above(Vec::new());
         for (i, node) in self.nodes().enumerate() {
-            let Some(says) = node.entries else { continue };
-            let mut folder = self.path(i);
-            if node.parent.is_some() {
-                folder.push(b'/');
-            }
-            let before = entries.split(|path| path < &folder);
-            let with_those_below = entries.split(|path| path < &folder || path.starts_with(&folder));
-            let there = with_those_below.saturating_sub(before);
-            if says as usize != there {
+            let (below, common) = match above.of(node.parent) {
+                None => (entries.clone(), 0),
+                Some((below, common)) => in_folder(below, *common, node.name),
+            };
+            let there = below.len();
+            if let Some(says) = node.entries.filter(|says| *says as usize != there) {
+                let mut folder = self.path(i);
+                folder.extend(node.parent.map(|_| b'/'));
                 return Err(TreeFault::Count { folder, says, there });
             }
+            above.0.push((i, (below, common)));
         }
         Ok(())
+    }
+}
+
+/// Those of some entries, whose paths have so many bytes in common, that lie in a folder there, and how many bytes the
+/// paths of these have in common.
+fn in_folder<'a>(entries: &Entries<'a>, common: usize, name: &[u8]) -> (Entries<'a>, usize) {
+    let stands = |path: &[u8]| to_folder(path.get(common..).unwrap_or_default(), name);
+    let first = entries.split(|path| stands(path) == Ordering::Less);
+    let behind = entries.split(|path| stands(path) != Ordering::Greater);
+    (entries.part(first..behind), common.saturating_add(name.len()).saturating_add(1))
+}
+
+/// How a path stands to those that lie in a folder: before them, among them or behind them.
+fn to_folder(path: &[u8], name: &[u8]) -> Ordering {
+    match path.split_at_checked(name.len()) {
+        None => path.cmp(name),
+        // the name alone is before what lies in it
+        Some((head, rest)) => head.cmp(name).then(rest.first().map_or(Ordering::Less, |byte| byte.cmp(&b'/'))),
+    }
+}
+
+/// What is known of the folders above a node, in a tree whose nodes come as they stand in the file: each with its node.
+#[derive(Clone, Debug)]
+struct Above<T>(Vec<(usize, T)>);
+
+impl<T> Above<T> {
+    /// What is known of the folder above; `None` for the root. Folders that are not above are left for good.
+    fn of(&mut self, parent: Option<usize>) -> Option<&T> {
+        while self.0.last().is_some_and(|(node, _)| Some(*node) != parent) {
+            self.0.pop();
+        }
+        self.0.last().map(|(_, known)| known)
+    }
+}
+
+/// The paths of the nodes of a tree, in the order of the file, each made of the one before it: together they may be far
+/// longer than the file, as one long name can stand above many others. See [`Tree::folders`].
+///
+/// ```
+/// # fn main() -> Result<(), sparrowpivot::Error> {
+/// # let index = sparrowpivot::Index::open("tests/data/settled.index")?;
+/// let mut folders = index.tree().expect("git left one").folders();
+/// assert_eq!(folders.step(), Some(b"".as_slice()));
+/// assert_eq!(folders.step(), Some(b"exhibit/".as_slice()));
+/// assert_eq!(folders.step(), None);
+/// # Ok(())
+/// # }
+/// ```
+#[derive(Clone, Debug)]
+pub struct Folders<'a> {
+    nodes: Enumerate<Nodes<'a>>,
+    path: Vec<u8>,
+    above: Above<usize>,
+}
+
+impl Folders<'_> {
+    /// The path of the next node with a slash after it; empty for the root.
+    pub fn step(&mut self) -> Option<&[u8]> {
+        let (i, node) = self.nodes.next()?;
+        match self.above.of(node.parent) {
+            None => self.path.clear(),
+            Some(end) => {
+                self.path.truncate(*end);
+                self.path.extend(node.name);
+                self.path.push(b'/');
+            }
+        }
+        self.above.0.push((i, self.path.len()));
+        Some(&self.path)
     }
 }
 

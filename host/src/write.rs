@@ -1,4 +1,7 @@
 //! An index written anew.
+use std::borrow::Cow;
+
+use crate::by_name::by_name;
 use crate::declarations::{WRITE_EOIE, WRITE_SPARSE, WRITE_TREE, WRITE_TREE_GIVEN, WRITE_UNHASHED};
 use crate::error::{Error, Refusal};
 use crate::ffi::{self, Values};
@@ -37,12 +40,16 @@ impl Index {
     /// # }
     /// ```
     pub fn write(&self, options: WriteOptions) -> Result<Vec<u8>, Error> {
+        let nodes = match options.tree && self.tree().is_some() {
+            true => by_name(self.tables().2, self.as_bytes())?,
+            false => Cow::Borrowed([].as_slice()),
+        };
         // what was read from version 2 or 3 is not longer when it is written
         let mut out = stores::store(self.as_bytes().len(), 0)?;
-        let values = match self.write_into(options, &mut out) {
+        let values = match self.write_into(options, &nodes, &mut out) {
             Err(Refusal::ShortOutput { size }) => {
                 out = stores::store(usize::try_from(size).unwrap_or(usize::MAX), 0)?;
-                self.write_into(options, &mut out)?
+                self.write_into(options, &nodes, &mut out)?
             }
             answer => answer?,
         };
@@ -51,7 +58,7 @@ impl Index {
         Ok(out)
     }
 
-    fn write_into(&self, options: WriteOptions, out: &mut [u8]) -> Result<Values, Refusal> {
+    fn write_into(&self, options: WriteOptions, nodes: &[u8], out: &mut [u8]) -> Result<Values, Refusal> {
         let asked = [
             (self.tree().is_some(), WRITE_TREE_GIVEN),
             (options.tree, WRITE_TREE),
@@ -60,7 +67,7 @@ impl Index {
             (options.zero_trailer, WRITE_UNHASHED),
         ];
         let bits = asked.iter().fold(0, |bits, (yes, bit)| if *yes { bits | bit } else { bits });
-        let (records, paths, nodes) = self.tables();
+        let (records, paths, _) = self.tables();
         ffi::write(records, paths, nodes, self.as_bytes(), bits, out)
     }
 }

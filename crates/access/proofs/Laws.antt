@@ -12,10 +12,10 @@ use lib.Dec.{eqb}
 use lib.Seq.{getD-drop}
 use borrow.Author.Tests.{lt-ltb, le-ltb, eq-eqb, ne-eqb}
 use Rattle.laws.specs.Pick.{pick}
-use Rattle.laws.specs.Tests.{Same, same, differs, same?, lt-or-ge, tri}
+use Rattle.laws.specs.Tests.{Same, same, differs, same?, tri}
 use Rattle.laws.specs.Lists.{drop-next}
 use Rattle.laws.specs.Order.{below, compared, compared-lt, compared-gt, compared-eq, flip, compared-flip}
-use Rattle.wire.specs.BigEndian.{beAt, be-join, be-small}
+use Rattle.wire.specs.BigEndian.{beAt, be-join, be-small, bytes-same}
 use Rattle.entry.specs.Paths.{Paths}
 use Rattle.entry.specs.Record.{recordsIn, stageAt, liesInside, pathAt}
 use Rattle.access.specs.Order.{orderOf, stageOrder, thenBy, placed, agreeing, Passed, EightsOf, differ-at, agree-to}
@@ -55,15 +55,6 @@ module _ (a b : List ℕ) (k r : ℕ) (inv : k + agreeing (drop k a) (drop k b) 
       agree-more e = omega (arith, rw (drop-next a k h, drop-next b k l, eq-eqb (getD a k 0) (getD b k 0) e) at inv)
 
 -- ---- the same, eight bytes at a time
-
--- numbers of w bytes that are equal have equal bytes
-bytes-same : (w : ℕ) (a b : List ℕ) (i : ℕ) → ((j : ℕ) → getD a j 0 < 256) → ((j : ℕ) → getD b j 0 < 256) → beAt w a i ≡ beAt w b i → (m : ℕ) → m < w → getD a (i + m) 0 ≡ getD b (i + m) 0
-unfolding beAt
-bytes-same zero a b i ha hb e m h = absurd (omega arith)
-bytes-same (suc w) a b i ha hb e m h =
-    let high : beAt w a i ≡ beAt w b i = omega (arith, ha (i + w), hb (i + w)) in
-    let low : getD a (i + w) 0 ≡ getD b (i + w) 0 = omega (arith, ha (i + w), hb (i + w)) in
-    ⊎-elim (λ l. bytes-same w a b i ha hb high m l) (λ l. let q : m ≡ w = omega arith in rw q low) (lt-or-ge m w)
 
 -- w bytes that are equal are passed
 agree-run : (w : ℕ) (a b : List ℕ) (k : ℕ) → k + w ≤ length a → k + w ≤ length b → ((m : ℕ) → m < w → getD a (k + m) 0 ≡ getD b (k + m) 0)

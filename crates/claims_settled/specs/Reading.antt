@@ -1,4 +1,7 @@
 -- That the contract of each callable function of the reader settles its answer and every lent store: records, entries, extensions, the tree, the whole file. Assumes nothing.
+use Prim.Native.Nat.{ℕ}
+use mathlib.Core.Bool.{Bool}
+use mathlib.Core.List.{List}
 use denote.Ref.{now}
 use Rattle.decode.specs.Entries.{Outcome as Ran}
 use Rattle.file.specs.Read.{Outcome}
@@ -8,6 +11,7 @@ use Rattle.decode.proofs as decode
 use Rattle.extension.proofs as extension
 use Rattle.node.proofs as node
 use Rattle.siblings.proofs as siblings
+use Rattle.link_sort.proofs as link_sort
 use Rattle.tree.proofs as tree
 use Rattle.file.proofs as file
 use Rattle.claims_settled.specs.Law.{Settles, SettlesSeen, settled}
@@ -127,6 +131,9 @@ node-head-settled κs a z z′ w w′ = settled (λ r. (r, w))
 pub put-node-settled : Settles node.put_node.Kinds.ps node.put_node.Kinds.r node.put_node.Reads.Learnt
 put-node-settled κs a z z′ w w′ = settled (λ o. (tt, (tt, (tt, (tt, (o, (tt, tt)))))))
 
+pub put-parent-settled : Settles node.put_parent.Kinds.ps node.put_parent.Kinds.r node.put_parent.Reads.Learnt
+put-parent-settled κs a z z′ w w′ = settled (λ o. (tt, (o, (tt, (tt, tt)))))
+
 pub nodes-in-settled : Settles node.nodes_in.Kinds.ps node.nodes_in.Kinds.r node.nodes_in.Reads.Learnt
 nodes-in-settled κs a z z′ w w′ = settled (λ r. (r, w))
 
@@ -164,6 +171,11 @@ rises-settled κs a z z′ w w′ = settled (λ r. (r, w))
 
 pub siblings-differ-settled : Settles siblings.siblings_differ.Kinds.ps siblings.siblings_differ.Kinds.r siblings.siblings_differ.Reads.Learnt
 siblings-differ-settled κs a z z′ w w′ = settled (λ r. (r, w))
+
+-- ---- `link_sort`
+
+pub differ-settled : Settles link_sort.differ.Kinds.ps link_sort.differ.Kinds.r link_sort.differ.Reads.Learnt
+differ-settled κs a z z′ w w′ = settled (λ (x : Bool × List ℕ). (x .0, (tt, (x .1, (tt, (tt, tt))))))
 
 -- ---- `tree`
 

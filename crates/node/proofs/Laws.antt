@@ -27,7 +27,7 @@ use Rattle.node.specs.declared.Head.{Head}
 use Rattle.node.specs.declared.Head.the-variants.{Is, Nothing}
 use Rattle.node.specs.Head.{countHalf, mostSubtrees, minusOne, spacedAt, endedAt, countedAt, namedAt, headAt}
 use Rattle.node.specs.Laws.{word-out, name-part, length-both, one, two, three, four, length-two, length-three, length-four, length-numbers, put-is}
-use Rattle.node.specs.Store.{numbersOf, idOf, nodeOf, putAt, wordAt, idAt, isPart, partOf, nameInside, nameAt}
+use Rattle.node.specs.Store.{numbersOf, idOf, nodeOf, putAt, withParent, wordAt, idAt, isPart, partOf, nameInside, nameAt}
 
 -- ---- the head
 
@@ -193,6 +193,15 @@ module _ (s : List ℕ) (n : Node) (parent : ℕ) (ns : List ℕ) (i : ℕ) wher
             → ns′ ≡ paste ns (i * 72) (drop 0 w₂) 72 → ns′ ≡ putAt s n parent ns i
         put-whole m ns′ w w₁ w₂ bytes eb ew e₁ e₂ e₃ = e₃ ∙ ap (λ (x : List ℕ). paste ns (i * 72) x 72) (made s n parent k l m w w₁ w₂ bytes eb ew e₁ e₂) ∙ sym (put-is s n parent ns i h k l m)
 
-pub ruleset puts = (put-full, put-turned, put-large, put-outside, put-whole)
+module _ (ns : List ℕ) (i parent : ℕ) where
+  pub parent-in : (ms : List ℕ) → ms ≡ paste ns (i * 72 + 32) (bytesOf 8 parent) 8 → i < length ns / 72 → ms ≡ withParent ns i parent
+  unfolding withParent
+  parent-in ms e h = e ∙ sym (rw (lt-ltb i (length ns / 72) h))
+
+  pub parent-out : length ns / 72 ≤ i → ns ≡ withParent ns i parent
+  unfolding withParent
+  parent-out h = sym (rw (le-ltb i (length ns / 72) h))
+
+pub ruleset puts = (put-full, put-turned, put-large, put-outside, put-whole, parent-in, parent-out)
 
 pub ruleset stores = (place-is, word-in, word-out, id-in, id-out, inside-tests, inside-not, name-turned, name-outside, name-part)

@@ -4,3 +4,4 @@ pub mod Store
 pub mod Spelled
 pub mod Marked
 pub mod Laws
+pub mod Parents

@@ -58,6 +58,10 @@ putAt s n parent ns i =
     (pick (ltb (length s) (n .next)) ns
     (paste ns (i * nodeSize) (nodeOf s n parent) nodeSize))))
 
+-- the store with the parent of node i set: as it was where it has no node i
+unfoldable pub withParent : List ℕ → ℕ → ℕ → List ℕ
+withParent ns i parent = pick (ltb i (nodesIn ns)) (paste ns (i * nodeSize + parentPlace) (bytesOf 8 parent) 8) ns
+
 -- ---- what the store says of node i
 
 -- the number at k; 0 past the last whole node

@@ -7,7 +7,7 @@ ghost use lib.Seq.{paste};
 ghost use Rattle.wire.specs.Places.{fileAt};
 ghost use Rattle.format.specs.Format.{idSize};
 ghost use Rattle.node.specs.Head.{spacedAt, endedAt, headAt};
-ghost use Rattle.node.specs.Store.{numbersOf, putAt, wordAt, nameStartAt, nameEndAt, countAt, subtreesAt, parentAt, idAt, nameInside, nameAt, nodesIn};
+ghost use Rattle.node.specs.Store.{numbersOf, putAt, withParent, wordAt, nameStartAt, nameEndAt, countAt, subtreesAt, parentAt, idAt, nameInside, nameAt, nodesIn};
 use slices::Ends;
 use wire::FileAt;
 use wire::Signed;
@@ -172,6 +172,15 @@ pub fn put_node(file: &[u8], n: Node, parent: u64, nodes: &mut [u8], i: usize)
     put_numbers(&mut w, n, parent);
     slices::copy_bytes(file, id, bytes, &mut w, ID);
     slices::copy_bytes(&w, 0, NODE_SIZE, nodes, base);
+}
+
+// Writes the parent of node i; nothing where there is no such node.
+pub fn put_parent(nodes: &mut [u8], i: usize, parent: u64)
+    ensures { λ _. ⌜ now (nodes .exit) ≡ withParent (now (nodes .entry)) i parent ⌝ }
+{
+    if i < nodes.len() / NODE_SIZE {
+        wire::put64(nodes, i * NODE_SIZE + PARENT, parent);
+    }
 }
 
 // How many nodes a store has room for.

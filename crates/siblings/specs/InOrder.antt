@@ -208,7 +208,7 @@ module _ (names ms : List ℕ) (me : ℕ) (so : Rising) (child : ℕ) where
   abbrev newMarks : Rising
   newMarks = record { last = child; bytes = and (so .bytes) (before lastName newName); git = and (so .git) (gitBefore (length lastName) (length newName) (before lastName newName)) }
 
-  risen-last : risen names ms me so child .last ≡ child
+  pub risen-last : risen names ms me so child .last ≡ child
   unfolding risen
   risen-last = by (eqb (so .last) me)
     where

@@ -1,5 +1,5 @@
-// Whether the names of a node's children differ. Children in strict order of name are settled while they are read, each compared with the one before it; only
-// where they come in no order that is known here is each compared with all before it.
+// Whether the names of a node's children differ. Children in strict order of name are settled while they are read, each compared with the one before it. Where they
+// come in no order that is known here, the reader sorts them (link_sort), and in a table that is checked each is compared with all before it.
 ghost use mathlib.Core.Path.{_≡_};
 ghost use Rattle.slices.specs.Bytes.{sameBytes};
 ghost use Rattle.node.specs.Store.{nameAt};

@@ -1,6 +1,6 @@
 -- Laws of the walk in the directions that the proofs of `src/` ask. Assumes nothing.
 use mathlib.Core.Bool.{Bool, true, false}
-use mathlib.Core.Path.{_≡_, refl, sym, _∙_}
+use mathlib.Core.Path.{_≡_, refl, sym, ap, _∙_}
 use mathlib.Core.List.{List, [], _++_, append-nil}
 use Prim.Native.Nat.{ℕ, zero, suc, _+_, _-_, _/_, _^_, _≤_, _<_}
 use native.Mathlib.Numerals.{sub-one}
@@ -16,10 +16,14 @@ use Rattle.node.specs.declared.Head.{Head}
 use Rattle.node.specs.declared.Head.the-variants.{Is, Nothing}
 use Rattle.node.specs.Head.{minusOne, headAt}
 use Rattle.node.specs.Store.{putAt}
+use Rattle.node.specs.Parents.{Bytes}
 use Rattle.siblings.specs.declared.Rising.{Rising}
 use Rattle.siblings.specs.Siblings.{siblingsDiffer}
 use Rattle.siblings.specs.Rising.{risen}
-use Rattle.siblings.specs.InOrder.{SoFar, so-far-start, so-far-more, bytes-differ, git-differ}
+use Rattle.siblings.specs.InOrder.{SoFar, risen-last, so-far-start, so-far-more, bytes-differ, git-differ}
+use Rattle.link_sort.specs.Runs.{sortedDiffer}
+use Rattle.link_sort.specs.Folder.{Folder}
+use Rattle.link_sort.specs.Answer.{answered}
 use Rattle.tree.specs.declared.Fault.{Fault}
 use Rattle.tree.specs.declared.Fault.the-variants.{Unspelled, Deep, Full}
 use Rattle.tree.specs.declared.Step.{Step}
@@ -28,6 +32,7 @@ use Rattle.tree.specs.declared.TreeAnswer.{TreeAnswer}
 use Rattle.tree.specs.declared.TreeAnswer.the-variants.{Tree}
 use Rattle.tree.specs.Tree.{Out, andThen, kids, settledAs, settled, body, nodeAt, rootAt, answerOf, readTree}
 use Rattle.tree.specs.Inside.{node-grows}
+use Rattle.tree.specs.Walked.{folder-next, folder-put}
 
 -- ---- a node whose last subtree is done
 
@@ -36,21 +41,34 @@ module _ (s ns : List ℕ) (me next used : ℕ) where
   unfolding settledAs
   settle-is e = sym (rw (← e))
 
-  pub settle-bytes : (so : Rising) → SoFar s ns me used so → so .bytes ≡ true → Read next used ≡ settledAs s ns me next used
-  settle-bytes so o e = settle-is (bytes-differ s ns me used so o e)
+  settle-not : false ≡ siblingsDiffer s ns me (me + 1) used → Stops Unspelled ≡ settledAs s ns me next used
+  unfolding settledAs
+  settle-not e = sym (rw (← e))
 
-  pub settle-git : (so : Rising) → SoFar s ns me used so → so .git ≡ true → Read next used ≡ settledAs s ns me next used
-  settle-git so o e = settle-is (git-differ s ns me used so o e)
+  pub settle-bytes : (so : Rising) → SoFar s ns me used so → so .bytes ≡ true → (Read next used, ns) ≡ settled s me (Read next used, ns)
+  settle-bytes so o e = λ i. (settle-is (bytes-differ s ns me used so o e) i, ns)
 
-  module _ (t : Bool) (e : t ≡ siblingsDiffer s ns me (me + 1) used) where
-    pub settle-differ : t ≡ true → Read next used ≡ settledAs s ns me next used
-    settle-differ q = settle-is (sym q ∙ e)
+  pub settle-git : (so : Rising) → SoFar s ns me used so → so .git ≡ true → (Read next used, ns) ≡ settled s me (Read next used, ns)
+  settle-git so o e = λ i. (settle-is (git-differ s ns me used so o e) i, ns)
 
-    pub settle-repeat : t ≡ false → Stops Unspelled ≡ settledAs s ns me next used
-    unfolding settledAs
-    settle-repeat q = sym (rw (← e, q))
+  -- the children were sorted, and the store put back
+  module _ (last : ℕ) (f : Folder ns me used last) (sized : length ns < 256 ^ 8) (t : Bool) (ms : List ℕ) (e : (t, ms) ≡ sortedDiffer s me last ns) (bytes : Bytes ns) (bytes₂ : Bytes ms) where
+    back : _≡_ {A = Bool × List ℕ} (t, ms) (siblingsDiffer s ns me (me + 1) used, ns)
+    back = answered s ns me used last f sized bytes t ms bytes₂ e
 
-pub ruleset settles = (settle-bytes, settle-git, settle-differ, settle-repeat)
+    said : t ≡ siblingsDiffer s ns me (me + 1) used
+    said = ap (λ (o : Bool × List ℕ). o .0) back
+
+    store : ms ≡ ns
+    store = ap (λ (o : Bool × List ℕ). o .1) back
+
+    pub settle-differ : t ≡ true → (Read next used, ms) ≡ settled s me (Read next used, ns)
+    settle-differ q = λ i. (settle-is (sym q ∙ said) i, store i)
+
+    pub settle-repeat : t ≡ false → (Stops Unspelled, ms) ≡ settled s me (Read next used, ns)
+    settle-repeat q = λ i. (settle-not (sym q ∙ said) i, store i)
+
+pub ruleset settles = (settle-bytes, settle-git)
 
 -- ---- a node
 
@@ -87,8 +105,8 @@ unfolding kids
 kids-end f l at used ns h = let q : l ≡ 0 = omega arith in rw q
 
 module _ (f : ℕ → ℕ → List ℕ → Out) (l at used : ℕ) (ns : List ℕ) (whole : Out) (inv : kids f l at used ns ≡ whole) where
-  pub loop-end : (s : List ℕ) (me : ℕ) (r : Step) → l ≤ 0 → r ≡ settledAs s ns me at used → (r, ns) ≡ settled s me whole
-  loop-end s me r h e = rw (e, ← inv, kids-end f l at used ns h)
+  pub loop-end : (s : List ℕ) (me : ℕ) (r : Step) (ms : List ℕ) → l ≤ 0 → (r, ms) ≡ settled s me (Read at used, ns) → (r, ms) ≡ settled s me whole
+  loop-end s me r ms h e = e ∙ sym (rw (← inv, kids-end f l at used ns h))
 
   module _ (more : 0 < l) (ms : List ℕ) (a : Step) (e : (a, ms) ≡ f at used ns) where
     pub loop-next : (n u : ℕ) → a ≡ Read n u → kids f (l - 1) n u ms ≡ whole
@@ -103,7 +121,17 @@ pub so-far-next : (s : List ℕ) (end d me at have : ℕ) (ns ms : List ℕ) (a 
 so-far-next s end d me at have ns ms a n u so more o e q r long =
     rw r (so-far-more s ns ms me have u so o (node-grows idSize (lit≤ tt) s end d me at have ns ms a n u e q long (o .onward)))
 
-pub ruleset walks = (out-deep, out-full, out-bad, out-node, loop-end, loop-next, loop-stop, so-far-start, so-far-next)
+-- the folder, with one child more, and with none yet
+pub folder-child : (s : List ℕ) (end d me at have : ℕ) (ns ms : List ℕ) (a : Step) (n u : ℕ) (so more : Rising) → Folder ns me have (so .last) → (a, ms) ≡ nodeAt idSize s end d me at have ns → a ≡ Read n u
+    → more ≡ risen s ms me so have → length ns < 256 ^ 8 → Folder ms me u (more .last)
+folder-child s end d me at have ns ms a n u so more f e q r long =
+    let last : more .last ≡ have = ap (λ (x : Rising). x .last) r ∙ risen-last s ms me so have in
+    rw last (folder-next idSize (lit≤ tt) s end d me at have ns ms a n u (so .last) f e q long)
+
+pub folder-first : (s : List ℕ) (at end : ℕ) (h : Head) (n : Node) (parent : ℕ) (ns ms : List ℕ) (used : ℕ) → used < length ns / 72 → h ≡ headAt idSize s at end → h ≡ Is n → ms ≡ putAt s n parent ns used → Folder ms used (used + 1) used
+folder-first s at end h n parent ns ms used l e q w = folder-put idSize (lit≤ tt) s at end n parent ns ms used l (sym e ∙ q) w
+
+pub ruleset walks = (out-deep, out-full, out-bad, out-node, loop-end, loop-next, loop-stop, so-far-start, so-far-next, folder-child, folder-first)
 
 -- ---- the root
 

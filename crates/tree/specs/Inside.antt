@@ -121,6 +121,24 @@ module _ (idLength : ℕ) (fits : idLength ≤ 32) (s : List ℕ) (end : ℕ) wh
   parents-below d parent at used ns long n u e j h k =
       node-inner idLength fits s end used (Between used) (λ p i x y. (x, y)) (Below used) (below-local used) (below-put used) d parent at used ns (omega arith) long n u e j h k
 
+  -- the node itself has its parent
+  module _ (me used : ℕ) where
+    abbrev Child : ℕ → List ℕ → Type 0
+    Child j ns = j ≡ used → parentAt ns j ≡ me
+
+    abbrev ChildOf : ℕ → ℕ → Type 0
+    ChildOf p j = (j ≡ used → p ≡ me) × (p < j)
+
+    child-local : (j : ℕ) (ns ms : List ℕ) → length ms ≡ length ns → ((m : ℕ) → m < 72 → getD ms (j * 72 + m) 0 ≡ getD ns (j * 72 + m) 0) → Child j ns → Child j ms
+    child-local j ns ms e h g z = word-same ns ms j e h 32 (lit≤ tt) ∙ g z
+
+    child-put : (at : ℕ) (n : Node) (parent : ℕ) (ns : List ℕ) (j : ℕ) → headAt idLength s at end ≡ Is n → j < length ns / 72 → length ns < 256 ^ 8 → ChildOf parent j → Child j (putAt s n parent ns j)
+    child-put at n parent ns j q h long l z = put-parent idLength fits s at end n parent ns j h q (omega (arith, l .1)) ∙ l .0 z
+
+    pub parent-first : (d at : ℕ) (ns : List ℕ) → me < used → length ns < 256 ^ 8 → (n v : ℕ) → nodeAt idLength s end d me at used ns .0 ≡ Read n v → parentAt (nodeAt idLength s end d me at used ns .1) used ≡ me
+    parent-first d at ns h long n v e =
+        node-first idLength fits s end used ChildOf (λ p j x y. ((λ z. absurd (omega arith)), y)) Child child-local child-put d me at used ns ((λ z. refl), h) long n v e refl
+
 -- a subtree that was read grows the store as the order of its parent's children asks
 pub node-grows : (idLength : ℕ) → idLength ≤ 32 → (s : List ℕ) (end d me at have : ℕ) (ns ms : List ℕ) (a : Step) (n u : ℕ) → (a, ms) ≡ nodeAt idLength s end d me at have ns → a ≡ Read n u → length ns < 256 ^ 8 → me < have
     → Grows s ns ms me have u

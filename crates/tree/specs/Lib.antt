@@ -4,5 +4,6 @@ pub mod Frame
 pub mod Inside
 pub mod Distinct
 pub mod Tally
+pub mod Walked
 pub mod Stored
 pub mod Marked

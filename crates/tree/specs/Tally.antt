@@ -2,15 +2,14 @@
 use mathlib.Core.Bool.{Bool}
 use mathlib.Core.Path.{_≡_, refl, sym, subst, _∙_}
 use mathlib.Core.List.{List}
-use mathlib.Core.Logic.{_⊎_, ⊎-elim}
+use mathlib.Core.Logic.{⊎-elim}
 use Prim.Native.Nat.{ℕ, zero, suc, _+_, _*_, _-_, _/_, _^_, _≤_, _<_}
 use native.Mathlib.Omega.{arith}
 use lib.Dec.{eqb, lit≤}
-use lib.ListN.{length, getD}
+use lib.ListN.{length}
 use borrow.Author.Tests.{eq-eqb, ne-eqb}
 use Rattle.laws.specs.Pick.{pick}
 use Rattle.laws.specs.Tests.{AtMost, at-most, above, at-most?, lt-or-ge}
-use Rattle.node.specs.declared.Node.{Node}
 use Rattle.node.specs.declared.Head.{Head}
 use Rattle.node.specs.declared.Head.the-variants.{Is, Nothing}
 use Rattle.node.specs.Head.{headAt}
@@ -20,8 +19,8 @@ use Rattle.node.specs.Laws.{word-same}
 use Rattle.tree.specs.declared.Fault.the-variants.{Unspelled, Deep, Full}
 use Rattle.tree.specs.declared.Step.the-variants.{Read, Stops}
 use Rattle.tree.specs.Tree.{Out, andThen, kids, settled, body, nodeAt}
-use Rattle.tree.specs.Frame.{Kept, not-read, read-used, kids-kept, settled-used, put-long, put-subtrees, put-parent, node-kept}
-use Rattle.tree.specs.Inside.{node-first, parents-below}
+use Rattle.tree.specs.Frame.{Kept, not-read, read-used, kids-kept, settled-used, put-long, put-subtrees, node-kept}
+use Rattle.tree.specs.Inside.{parent-first, parents-below}
 use Rattle.tree.specs.Distinct.{kids-outer}
 
 -- how many of the f nodes from i on have the parent k
@@ -95,24 +94,12 @@ module _ (idLength : ℕ) (fits : idLength ≤ 32) (s : List ℕ) (end : ℕ) wh
   -- ---- a subtree is one child of its parent
 
   module _ (me used : ℕ) where
-    abbrev Child : ℕ → List ℕ → Type 0
-    Child j ns = j ≡ used → parentAt ns j ≡ me
-
-    abbrev ChildOf : ℕ → ℕ → Type 0
-    ChildOf p j = (j ≡ used → p ≡ me) × (p < j)
-
-    child-local : (j : ℕ) (ns ms : List ℕ) → length ms ≡ length ns → ((m : ℕ) → m < 72 → getD ms (j * 72 + m) 0 ≡ getD ns (j * 72 + m) 0) → Child j ns → Child j ms
-    child-local j ns ms e h g z = word-same ns ms j e h 32 (lit≤ tt) ∙ g z
-
-    child-put : (at : ℕ) (n : Node) (parent : ℕ) (ns : List ℕ) (j : ℕ) → headAt idLength s at end ≡ Is n → j < length ns / 72 → length ns < 256 ^ 8 → ChildOf parent j → Child j (putAt s n parent ns j)
-    child-put at n parent ns j q h long l z = put-parent idLength fits s at end n parent ns j h q (omega (arith, l .1)) ∙ l .0 z
-
     one-child : (d at : ℕ) (ns : List ℕ) → me < used → length ns < 256 ^ 8 → (n v : ℕ) → nodeAt idLength s end d me at used ns .0 ≡ Read n v → used < v → children (nodeAt idLength s end d me at used ns .1) me used v ≡ 1
     unfolding childrenIn
     one-child d at ns h long n v e l =
         let o : List ℕ = nodeAt idLength s end d me at used ns .1 in
         let left : v - used ≡ suc (v - (used + 1)) = omega arith in
-        let mine : parentAt o used ≡ me = node-first idLength fits s end used ChildOf (λ p j x y. ((λ z. absurd (omega arith)), y)) Child child-local child-put d me at used ns ((λ z. refl), h) long n v e refl in
+        let mine : parentAt o used ≡ me = parent-first idLength fits s end me used d at ns h long n v e in
         let others : childrenIn o me (v - (used + 1)) (used + 1) ≡ 0
         = none-in o me (v - (used + 1)) (used + 1) (λ j x y z. omega (arith, parents-below idLength fits s end d me at used ns long n v e j x (omega arith) .0)) in
         rw (left, eq-eqb (parentAt o used) me mine) (omega arith)

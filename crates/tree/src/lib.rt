@@ -1,8 +1,10 @@
 // The TREE extension: a node and its subtrees, in file order, into a lent node store. Where the tree is malformed, too deep or too large for the store, every byte
 // lent is zeroed.
 ghost use mathlib.Core.Path.{_≡_};
-ghost use Rattle.tree.specs.Tree.{nodeAt, settledAs, rootAt, readTree, answerOf, numberOf};
+ghost use Rattle.tree.specs.declared.Step.the-variants.{Read};
+ghost use Rattle.tree.specs.Tree.{nodeAt, settled, rootAt, readTree, answerOf, numberOf};
 ghost use Rattle.siblings.specs.InOrder.{SoFar};
+ghost use Rattle.link_sort.specs.Folder.{Folder};
 use node::Head;
 use siblings::Rising;
 ghost use Rattle.format.specs.Format.{depthLimit, idSize};
@@ -28,10 +30,12 @@ pub enum TreeAnswer {
     NoRoom,
 }
 
-// A node whose last subtree is done: a name that two of its children have spoils the tree. Children that are in order need no search.
-fn settle(file: &[u8], nodes: &[u8], me: usize, next: usize, used: usize, so: Rising) -> Step
+// A node whose last subtree is done: a name that two of its children have spoils the tree. Children that are in order need no search; others are sorted, by links in
+// the node store, which is at the end as it was.
+fn settle(file: &[u8], nodes: &mut [u8], me: usize, next: usize, used: usize, so: Rising) -> Step
     requires { ⌜ SoFar (now file) (now nodes) me used so ⌝ }
-    ensures { λ r. ⌜ r ≡ settledAs (now (file .entry)) (now (nodes .entry)) me next used ⌝ }
+    requires { ⌜ Folder (now nodes) me used (so .last) ⌝ }
+    ensures { λ r. ⌜ (r, now (nodes .exit)) ≡ settled (now (file .entry)) me (Read next used, now (nodes .entry)) ⌝ }
 {
     let bytes = so.bytes;
     let git = so.git;
@@ -41,8 +45,8 @@ fn settle(file: &[u8], nodes: &[u8], me: usize, next: usize, used: usize, so: Ri
     if git {
         return Step::Read { next, used };
     }
-    let first = me + 1;
-    let differ = siblings::siblings_differ(file, nodes, me as u64, first, used);
+    let last = so.last;
+    let differ = link_sort::differ(file, nodes, me, last);
     if differ {
         Step::Read { next, used }
     } else {

@@ -1,15 +1,16 @@
 -- Laws of the walk order's definitions, turned the way that the needs ask. Assumes nothing.
 use mathlib.Core.Bool.{Bool, true, false}
-use mathlib.Core.Path.{_≡_, sym, ap, _∙_}
+use mathlib.Core.Path.{_≡_, refl, sym, ap, _∙_}
 use mathlib.Core.List.{List}
-use Prim.Native.Nat.{ℕ, suc, _+_, _-_, _≤_, _<_}
+use Prim.Native.Nat.{ℕ, zero, suc, _+_, _-_, _≤_, _<_}
 use native.Mathlib.Omega.{arith}
-use lib.Dec.{ltb, eqb}
-use borrow.Author.Tests.{lt-ltb, le-ltb, eq-eqb, ne-eqb}
+use lib.Dec.{ltb, leb, eqb}
+use borrow.Author.Tests.{lt-ltb, le-ltb, le-leb, lt-leb, eq-eqb, ne-eqb}
 use Rattle.laws.specs.Pick.{pick}
 use Rattle.format.specs.Format.{depthLimit}
 use Rattle.node.specs.Store.{nodesIn, parentAt}
-use Rattle.walk_order.specs.Walk.{climbsTo, walksFrom, walks, childFrom, nextChild}
+use Rattle.walk_order.specs.Walk.{climbsTo, walksFrom, walks, childFrom, nextChild, kidFrom, kidAbove}
+use Rattle.walk_order.specs.Kid.{kid-enough}
 
 -- ---- a climb
 
@@ -86,4 +87,33 @@ module _ (ns : List ℕ) (p n j r : ℕ) (inv : childFrom ns p (n - j) j ≡ r) 
     pub child-more : (q ≡ p → ⊥) → p ≤ q → childFrom ns p (n - (j + 1)) (j + 1) ≡ r
     child-more k l = sym (rw (ne-eqb q p k, le-ltb q p l)) ∙ cut-child
 
-pub ruleset laws = (climb-none, climb-there, climb-up, walk-start, walk-end, walk-more, walk-not, child-past, child-start, child-end, child-here, child-over, child-more)
+-- ---- the climb to a child
+
+pub kid-start : (ns : List ℕ) (p x : ℕ) → kidFrom ns p x x ≡ kidAbove ns p x
+unfolding kidAbove
+kid-start ns p x = refl
+
+module _ (ns : List ℕ) (p x r : ℕ) (inv : kidFrom ns p x x ≡ r) where
+  pub kid-end : x ≤ p → 0 ≡ r
+  unfolding kidFrom
+  kid-end h = by x h ∙ inv
+    where
+      by : (k : ℕ) → x ≤ p → 0 ≡ kidFrom ns p k x
+      by zero h = refl
+      by (suc k) h = sym (rw (le-leb x p h))
+
+  module _ (h : p < x) (q : ℕ) (e : q ≡ parentAt ns x) where
+    cut-kid : pick (eqb q p) x (pick (leb x q) 0 (kidFrom ns p (x - 1) q)) ≡ r
+    unfolding kidFrom
+    cut-kid = let z : x ≡ suc (x - 1) = omega arith in sym (ap (λ (k : ℕ). kidFrom ns p k x) z ∙ rw (lt-leb x p h, ← e)) ∙ inv
+
+    pub kid-here : q ≡ p → x ≡ r
+    kid-here k = sym (rw (eq-eqb q p k)) ∙ cut-kid
+
+    pub kid-lost : (q ≡ p → ⊥) → x ≤ q → 0 ≡ r
+    kid-lost k l = sym (rw (ne-eqb q p k, le-leb x q l)) ∙ cut-kid
+
+    pub kid-up : (q ≡ p → ⊥) → q < x → kidFrom ns p q q ≡ r
+    kid-up k l = kid-enough ns p q (x - 1) q (omega arith) (omega arith) ∙ sym (rw (ne-eqb q p k, lt-leb x q l)) ∙ cut-kid
+
+pub ruleset laws = (climb-none, climb-there, climb-up, walk-start, walk-end, walk-more, walk-not, child-past, child-start, child-end, child-here, child-over, child-more, kid-start, kid-end, kid-here, kid-lost, kid-up)

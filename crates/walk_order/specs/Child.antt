@@ -13,44 +13,22 @@ use Rattle.laws.specs.Tests.{lt-or-ge, Less, less, not-less, less?, Same, same,
 use Rattle.format.specs.Format.{depthLimit}
 use Rattle.node.specs.Store.{nodesIn, parentAt}
 use Rattle.walk_order.specs.Walk.{climbsTo, walksFrom, walks, childFrom, nextChild}
+use Rattle.walk_order.specs.Below.{Above, higher, above-same, Below, parent-before, nested}
 
 pub false-true : false ≡ true → ⊥
 false-true e = let z : _≡_ {A = ℕ} 0 1 = cc in omega arith
 
--- ---- what stands above a node
+-- ---- a climb
 
--- p is the node, or stands above it
-data Above (ns : List ℕ) (p : ℕ) : ℕ → Type 0 where
-  itself : Above ns p p
-  higher : {x : ℕ} → p < x → Above ns p (parentAt ns x) → Above ns p x
-
-module _ (ns : List ℕ) (p : ℕ) where
-  above-low : {x : ℕ} → Above ns p x → p ≤ x
-  above-low itself = omega arith
-  above-low (higher l a) = omega arith
-
-  above-cases : {x : ℕ} → Above ns p x → (p ≡ x) ⊎ ((p < x) × Above ns p (parentAt ns x))
-  above-cases itself = inl refl
-  above-cases (higher l a) = inr (l, a)
-
-  -- what stands above the end of a climb stands above its start
-  climb-above : (k x q : ℕ) → climbsTo ns k x q ≡ true → Above ns p q → Above ns p x
-  unfolding climbsTo
-  climb-above zero x q e a = absurd (false-true e)
-  climb-above (suc k) x q e a = by (less? q x) (λ h. climb-above k (parentAt ns x) q h a) e
-    where
-      by : {t : Bool} → Less q x t → (climbsTo ns k (parentAt ns x) q ≡ true → Above ns p (parentAt ns x)) → pick t (climbsTo ns k (parentAt ns x) q) (eqb x q) ≡ true → Above ns p x
-      by (less l) f h = let low : p ≤ q = above-low a in let up : p < x = omega arith in higher up (f h)
-      by (not-less l) f h = subst (λ (y : ℕ). Above ns p y) (sym (eqb-true x q h)) a
-
-climb-low : (ns : List ℕ) (k x q : ℕ) → climbsTo ns k x q ≡ true → q ≤ x
+-- where a climb ends stands above its start
+climb-above : (ns : List ℕ) (k x q : ℕ) → climbsTo ns k x q ≡ true → Above ns q x
 unfolding climbsTo
-climb-low ns zero x q e = absurd (false-true e)
-climb-low ns (suc k) x q e = by (less? q x) e
+climb-above ns zero x q e = absurd (false-true e)
+climb-above ns (suc k) x q e = by (less? q x) (λ h. climb-above ns k (parentAt ns x) q h) e
   where
-    by : {t : Bool} → Less q x t → pick t (climbsTo ns k (parentAt ns x) q) (eqb x q) ≡ true → q ≤ x
-    by (less l) h = omega arith
-    by (not-less l) h = let z : x ≡ q = eqb-true x q h in omega arith
+    by : {t : Bool} → Less q x t → (climbsTo ns k (parentAt ns x) q ≡ true → Above ns q (parentAt ns x)) → pick t (climbsTo ns k (parentAt ns x) q) (eqb x q) ≡ true → Above ns q x
+    by (less l) f h = higher l (f h)
+    by (not-less l) f h = above-same ns q x (sym (eqb-true x q h))
 
 -- ---- a table in walk order
 
@@ -77,35 +55,13 @@ module _ (limit : ℕ) (ns : List ℕ) (w : walks limit ns ≡ true) where
   unfolding walks
   reached i h l = each-walks limit ns (nodesIn ns - 1) 1 w i (omega arith) (omega arith)
 
+  -- the whole table stands below node 0
+  pub whole-below : Below ns 0 (nodesIn ns)
+  whole-below = record { inside = λ j h l. omega arith; follows = λ j h l. climb-above ns limit (j - 1) (parentAt ns j) (reached j h l) }
+
   -- a child stands behind its parent
   pub child-behind : (i : ℕ) → 0 < i → i < nodesIn ns → parentAt ns i < i
-  child-behind i h l = let low : parentAt ns i ≤ i - 1 = climb-low ns limit (i - 1) (parentAt ns i) (reached i h l) in omega arith
-
-  -- p stands above nothing from j on
-  left-behind : (p j : ℕ) → p < j → parentAt ns j < p → (d : ℕ) → j + d < nodesIn ns → Above ns p (j + d) → ⊥
-  left-behind p j h l zero m a = by (above-cases ns p (subst (λ (x : ℕ). Above ns p x) here a))
-    where
-      here : j + 0 ≡ j
-      here = omega arith
-
-      by : (p ≡ j) ⊎ ((p < j) × Above ns p (parentAt ns j)) → ⊥
-      by (inl e) = omega arith
-      by (inr b) = let low : p ≤ parentAt ns j = above-low ns p (b .1) in omega arith
-  left-behind p j h l (suc d) m a = by (left-behind p j h l d (omega arith)) (above-cases ns p a)
-    where
-      last : j + suc d - 1 ≡ j + d
-      last = omega arith
-
-      by : (Above ns p (j + d) → ⊥) → (p ≡ j + suc d) ⊎ ((p < j + suc d) × Above ns p (parentAt ns (j + suc d))) → ⊥
-      by f (inl e) = omega arith
-      by f (inr b) = f (subst (λ (x : ℕ). Above ns p x) last (climb-above ns p limit (j + suc d - 1) (parentAt ns (j + suc d)) (reached (j + suc d) (omega arith) m) (b .1)))
-
-  -- behind a node whose parent stands before p there is no child of p
-  nested : (p j k : ℕ) → p < j → j < k → k < nodesIn ns → parentAt ns j < p → parentAt ns k ≡ p → ⊥
-  nested p j k h l m q e =
-      let z : k - 1 ≡ j + (k - 1 - j) = omega arith in
-      left-behind p j h q (k - 1 - j) (omega arith)
-      (subst (λ (x : ℕ). Above ns p x) z (climb-above ns p limit (k - 1) (parentAt ns k) (reached k (omega arith) m) (subst (λ (x : ℕ). Above ns p x) (sym e) itself)))
+  child-behind i h l = parent-before ns 0 (nodesIn ns) whole-below i h l
 
 -- ---- the search
 
@@ -148,7 +104,7 @@ module _ (limit : ℕ) (ns : List ℕ) (w : walks limit ns ≡ true) where
       by : {s t : Bool} → Same (parentAt ns j) p s → Less (parentAt ns j) p t → (j < i) ⊎ (i ≤ j) → (j < i → (0 < rest) × (rest ≤ i)) → (0 < pick s j (pick t 0 rest)) × (pick s j (pick t 0 rest) ≤ i)
       by (same q) v c f = (omega arith, omega arith)
       by (differs q) v (inr l) f = absurd (q (itself-child l))
-      by (differs q) (less l) (inl c) f = absurd (nested limit ns w p j i h c (omega arith) l e)
+      by (differs q) (less l) (inl c) f = absurd (nested ns 0 (nodesIn ns) (whole-below limit ns w) p j i (omega arith) h c (omega arith) l e)
       by (differs q) (not-less l) (inl c) f = f c
 
   -- THE CLAIM

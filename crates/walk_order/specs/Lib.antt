@@ -1,3 +1,6 @@
--- The modules of walk_order that contracts and proofs cite: tables in walk order and the next child, and what the search for it finds. Assumes nothing.
+-- The modules of walk_order that contracts and proofs cite: tables in walk order and the ways to a child, what stands below a node, and what the ways find. Assumes
+-- nothing.
 pub mod Walk
+pub mod Below
 pub mod Child
+pub mod Kid

@@ -1,9 +1,10 @@
 -- A node table in walk order (01, Extensions: "Nodes go to a lent store in file order"): the parent of each node but the first is the node before it, or is
--- reached from there by parents. And the search for the next child, which in such a table need not pass over the whole of it. Assumes nothing.
+-- reached from there by parents. And two ways to a child, which in such a table need not pass over the whole of it: the search for the next child, and the climb from
+-- a node to the child that it stands below. Assumes nothing.
 use mathlib.Core.Bool.{Bool, true, false}
 use mathlib.Core.List.{List}
 use Prim.Native.Nat.{ℕ, zero, suc, _+_, _-_}
-use lib.Dec.{ltb, eqb}
+use lib.Dec.{ltb, leb, eqb}
 use Rattle.laws.specs.Pick.{pick}
 use Rattle.node.specs.Store.{nodesIn, parentAt}
 
@@ -28,3 +29,17 @@ childFrom ns p (suc k) j = pick (eqb (parentAt ns j) p) j (pick (ltb (parentAt n
 -- the next child of p behind node x, or 0
 unfoldable pub nextChild : List ℕ → ℕ → ℕ → ℕ
 nextChild ns p x = childFrom ns p (nodesIn ns - (x + 1)) (x + 1)
+
+-- the child of p that x is or stands below, by a climb over at most k nodes; 0 where the climb comes to p or before it, or to a node whose parent does not stand
+-- before it
+unfoldable pub kidFrom : List ℕ → ℕ → ℕ → ℕ → ℕ
+kidFrom ns p zero x = 0
+kidFrom ns p (suc k) x =
+    pick (leb x p) 0
+    (pick (eqb (parentAt ns x) p) x
+    (pick (leb x (parentAt ns x)) 0
+    (kidFrom ns p k (parentAt ns x))))
+
+-- the same from x on: x nodes are enough, since each step goes to an earlier node
+unfoldable pub kidAbove : List ℕ → ℕ → ℕ → ℕ
+kidAbove ns p x = kidFrom ns p x x

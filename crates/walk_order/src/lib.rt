@@ -1,8 +1,8 @@
 // Node tables in walk order, as the reader stores them: what is below a node stands right behind it. There a node's children are found among the nodes behind it, and
-// the search ends with the last of them.
+// the search ends with the last of them; and from a node the climb by parents leads to the child of a node above that it stands below.
 ghost use mathlib.Core.Path.{_≡_};
 ghost use Rattle.format.specs.Format.{depthLimit};
-ghost use Rattle.walk_order.specs.Walk.{climbsTo, walks, nextChild};
+ghost use Rattle.walk_order.specs.Walk.{climbsTo, walks, nextChild, kidAbove};
 
 // Whether `to` is `from`, or is reached from there by parents.
 fn climbs_to(nodes: &[u8], from: usize, to: usize) -> bool
@@ -58,6 +58,25 @@ pub fn next_child(nodes: &[u8], p: usize, x: usize) -> usize
             return 0;
         }
         j += 1;
+    }
+    0
+}
+
+// The child of p that x is or stands below, or 0. In walk order this is the last child of p at x or before: the climb from the node before a child leads to the child
+// before it. A climb ends that comes to p or before it, or to a node whose parent does not stand before it.
+pub fn kid_above(nodes: &[u8], p: usize, x: usize) -> usize
+    ensures { λ r. ⌜ r ≡ kidAbove (now (nodes .entry)) p x ⌝ }
+{
+    let mut node = x;
+    while p < node {
+        let up = node::parent(nodes, node);
+        if up == p as u64 {
+            return node;
+        }
+        if node as u64 <= up {
+            return 0;
+        }
+        node = up as usize;
     }
     0
 }

@@ -2,12 +2,14 @@
 -- number; each law once, over the width. Assumes nothing.
 use mathlib.Core.Path.{_≡_, refl, ap, _∙_}
 use mathlib.Core.List.{List, [], _∷_, _++_}
+use mathlib.Core.Logic.{⊎-elim}
 use Prim.Native.Nat.{ℕ, zero, suc, _+_, _-_, _*_, _/_, _%_, _^_, _≤_, _<_}
 use native.Mathlib.Nat.{add-assoc, pow-suc}
 use native.Mathlib.Omega.{arith}
 use lib.ListN.{length, getD, length-append, List·getD-append}
 use lib.Seq.{paste}
 use Rattle.laws.specs.Lists.{getD-right}
+use Rattle.laws.specs.Tests.{lt-or-ge}
 use Rattle.laws.specs.Paste.{getD-pasted}
 
 -- the number that the w bytes from `at` on spell, the upper first; a byte past the end counts as 0
@@ -80,3 +82,12 @@ be-small (suc w) s at h =
     let p : beAt w s at < 256 ^ w = be-small w s at h in
     let q : getD s (at + w) 0 < 256 = h (at + w) in
     rw (pow-suc 256 w) (omega arith)
+
+-- numbers of w bytes that are equal have equal bytes
+pub bytes-same : (w : ℕ) (a b : List ℕ) (i : ℕ) → ((j : ℕ) → getD a j 0 < 256) → ((j : ℕ) → getD b j 0 < 256) → beAt w a i ≡ beAt w b i → (m : ℕ) → m < w → getD a (i + m) 0 ≡ getD b (i + m) 0
+unfolding beAt
+bytes-same zero a b i ha hb e m h = absurd (omega arith)
+bytes-same (suc w) a b i ha hb e m h =
+    let high : beAt w a i ≡ beAt w b i = omega (arith, ha (i + w), hb (i + w)) in
+    let low : getD a (i + w) 0 ≡ getD b (i + w) 0 = omega (arith, ha (i + w), hb (i + w)) in
+    ⊎-elim (λ l. bytes-same w a b i ha hb high m l) (λ l. let q : m ≡ w = omega arith in rw q low) (lt-or-ge m w)

@@ -1,10 +1,11 @@
--- `tree::one_recursive` meets its contract. The remaining depth falls. The invariant: the children so far are in the order that is noted, and what is left of the subtrees gives the whole answer. Assumes nothing.
+-- `tree::one_recursive` meets its contract. The remaining depth falls. The invariant: the children so far are in the order that is noted and below their parent in walk order, and what is left of the subtrees gives the whole answer. Assumes nothing.
 use borrow.Author.Needs.{needs}
-use Rattle.tree.proofs.Laws.{walks, so-far-next}
+use Rattle.tree.proofs.Laws.{walks, so-far-next, folder-child, folder-first}
 use mathlib.Core.Path.{_≡_}
 use lib.ListN.{length}
 use Prim.Native.Nat.{ℕ, _^_, _<_}
 use Rattle.siblings.specs.InOrder.{SoFar}
+use Rattle.link_sort.specs.Folder.{Folder}
 use Rattle.tree.specs.Tree.{kids, nodeAt}
 use borrow.Fn.Kinds.{In}
 use borrow.Fn.PlainCycle.{Measures, is, falls, and}
@@ -36,7 +37,7 @@ one-recursive-below t =
 
 abbrev one-recursive-Inv-loop : one-recursive-lts.InvT-loop
 one-recursive-Inv-loop file at end nodes₀ used parent depth below next₀ have₀ left₀ so₀ nodes next have left so =
-    (length nodes ≡ length nodes₀) × (length nodes < 256 ^ 8) × SoFar file nodes used have so
+    (length nodes ≡ length nodes₀) × (length nodes < 256 ^ 8) × SoFar file nodes used have so × Folder nodes used have (so .last)
     × (kids (nodeAt idSize file end below used) left next have nodes ≡ kids (nodeAt idSize file end below used) left₀ next₀ have₀ nodes₀)
 
 abbrev one-recursive-μ-loop : one-recursive-lts.MeasureT-loop
@@ -71,7 +72,15 @@ one-recursive-add-have : (t : ℕ) → one-recursive-lts.Need-add-have (one-recu
 one-recursive-add-have t c = search (walks, needs)
 
 one-recursive-loop-holds : (t : ℕ) → one-recursive-lts.Need-loop-holds (one-recursive-callees t) (one-recursive-at t) one-recursive.Post one-recursive-Inv-loop one-recursive-μ-loop
-one-recursive-loop-holds t c = search (walks, needs)
+one-recursive-loop-holds t c = (
+  search (walks, needs),
+  search (walks, needs),
+  search (walks, needs),
+  let put = c .before .before in
+      let head = put .before .before .before in
+      folder-first _ _ _ _ _ _ _ _ _ (head .before .before .before .if2 .left) (head .before .before .node-head .ensures) (head .h .given .1) (put .put-node .ensures),
+  search (walks, needs),
+)
 
 one-recursive-one-recursive-requires : (t : ℕ) → one-recursive-lts.Need-one-recursive-requires (one-recursive-callees t) (one-recursive-at t) one-recursive.Post one-recursive-Inv-loop one-recursive-μ-loop
 one-recursive-one-recursive-requires t c κs = search (walks, needs)
@@ -105,6 +114,7 @@ one-recursive-loop-again t c =
       search (walks, needs),
       search (walks, needs),
       so-far-next _ _ _ _ _ _ _ _ _ _ _ _ _ (inv .2) (call .one-recursive .ensures) (read .a2 .given .1) (c .rises .ensures) (inv .1),
+      folder-child _ _ _ _ _ _ _ _ _ _ _ _ _ (inv .3) (call .one-recursive .ensures) (read .a2 .given .1) (c .rises .ensures) (inv .1),
       search (walks, needs),
     )
 

@@ -100,7 +100,7 @@ fn act(out: &mut impl Write, action: Action, form: Form, file: &OsStr, lock: Opt
     match action {
         Action::List => Ok(show::entries(out, form, index.entries())?),
         Action::Find { path, stage } => Ok(show::entries(out, form, found(&index, &path, stage)?.into_iter())?),
-        Action::Tree => Ok(show::nodes(out, form, index.tree())?),
+        Action::Tree => show::nodes(out, form, index.tree()),
         Action::Check => check::check(out, form, &index)?.then_some(()).ok_or(Stop::NotSound),
         Action::Rewrite { tree, zero_trailer, drop, .. } => {
             let bytes = rewrite::rewritten(&index, tree, zero_trailer, drop).map_err(Stop::Refused)?;

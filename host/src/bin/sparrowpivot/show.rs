@@ -6,6 +6,7 @@ use sparrowpivot::{Entry, Node, Tree};
 use crate::args::Form;
 use crate::json;
 use crate::quote::quoted;
+use crate::Stop;
 
 /// Writes entries, each as a line of `git ls-files --stage` or as an object.
 pub fn entries<'a>(out: &mut impl Write, form: Form, all: impl Iterator<Item = Entry<'a>>) -> io::Result<()> {
@@ -21,21 +22,44 @@ pub fn entries<'a>(out: &mut impl Write, form: Form, all: impl Iterator<Item = E
     Ok(())
 }
 
+/// The most bytes that the paths of a tree's folders may have together. Each is printed whole, so that one long name
+/// above many others makes a small file print without end.
+const MOST_PATH_BYTES: u64 = 1 << 30;
+
 /// Writes the nodes of a tree, each as a line or as an object; where there is no tree, nothing or no object.
-pub fn nodes(out: &mut impl Write, form: Form, tree: Option<Tree<'_>>) -> io::Result<()> {
-    let all = tree.iter().flat_map(|tree| tree.nodes().enumerate().map(|(i, node)| (tree.path(i), node)));
-    if form == Form::Json {
-        return json::array(out, all, |out, (path, node)| node_object(out, &path, &node));
+pub fn nodes(out: &mut impl Write, form: Form, tree: Option<Tree<'_>>) -> Result<(), Stop> {
+    let Some(tree) = tree else {
+        let none: &[u8] = if form == Form::Json { b"[]\n" } else { b"" };
+        return Ok(out.write_all(none)?);
+    };
+    let bytes = path_bytes(tree);
+    if bytes > MOST_PATH_BYTES {
+        return Err(Stop::Refused(format!("the paths of its folders have {bytes} bytes, over {MOST_PATH_BYTES}")));
     }
-    for (mut name, node) in all {
+    let mut folders = tree.folders();
+    if form == Form::Json {
+        let one = |out: &mut _, node| node_object(out, folders.step().unwrap_or_default(), &node);
+        return Ok(json::array(out, tree.nodes(), one)?);
+    }
+    for node in tree.nodes() {
         match (node.id, node.entries) {
             (Some(id), Some(entries)) => write!(out, "{id} {entries} {}\t", node.subtrees)?,
             _ => write!(out, "- - {}\t", node.subtrees)?,
         }
-        name.push(b'/');
-        path(out, form, &name)?;
+        // the root's is a slash alone
+        let folder = folders.step().filter(|folder| !folder.is_empty());
+        path(out, form, folder.unwrap_or(b"/"))?;
     }
     Ok(())
+}
+
+/// How many bytes the paths of all folders have together.
+fn path_bytes(tree: Tree<'_>) -> u64 {
+    let (mut folders, mut bytes) = (tree.folders(), 0_u64);
+    while let Some(folder) = folders.step() {
+        bytes = bytes.saturating_add(folder.len() as u64);
+    }
+    bytes
 }
 
 /// A path and the end of its line.
@@ -62,9 +86,10 @@ fn entry_object(out: &mut impl Write, entry: &Entry<'_>) -> io::Result<()> {
     write!(out, ",\"mtime\":[{},{}]}}", stat.mtime.seconds, stat.mtime.nanoseconds)
 }
 
-fn node_object(out: &mut impl Write, path: &[u8], node: &Node<'_>) -> io::Result<()> {
+/// An object, of a path with a slash after it.
+fn node_object(out: &mut impl Write, folder: &[u8], node: &Node<'_>) -> io::Result<()> {
     out.write_all(b"{")?;
-    json::bytes(out, "path", path)?;
+    json::bytes(out, "path", folder.strip_suffix(b"/").unwrap_or_default())?;
     match (node.id, node.entries) {
         (Some(id), Some(entries)) => write!(out, ",\"id\":\"{id}\",\"entries\":{entries}")?,
         _ => out.write_all(b",\"id\":null,\"entries\":null")?,

@@ -1,0 +1,2 @@
+-- The proofs' own laws. Assumes nothing.
+pub mod Laws
