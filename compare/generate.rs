@@ -229,20 +229,40 @@ pub fn eoie(all: &[u8], from: usize) -> Vec<u8> {
     extension(b"EOIE", &[(from as u32).to_be_bytes().as_slice(), &sha1(&heads)].concat())
 }
 
-fn extensions(r: &mut Rng, out: &mut Vec<u8>, odd: bool) {
+/// A first byte of a signature: mostly a capital letter.
+fn letter(r: &mut Rng) -> u8 {
+    let any = r.next() as u8;
+    if any.is_ascii_lowercase() {
+        any
+    } else {
+        b'A' + any % 26
+    }
+}
+
+/// A first byte of a signature that is no letter, next to the letters or anywhere.
+fn stray(r: &mut Rng) -> u8 {
+    let any = r.next() as u8;
+    r.pick(&[b'@', b'[', b'`', b'{', b'0', b'9', b'_', 0, 0xff, if any.is_ascii_alphabetic() { !any } else { any }])
+}
+
+/// The extensions of a file; with `strays` one in three has a stray signature.
+fn extensions(r: &mut Rng, out: &mut Vec<u8>, odd: bool, strays: bool) {
     let start = out.len();
     for _ in 0..r.pick(&[0, 0, 1, 1, 2, 3, 4]) {
         let n = r.below(12);
         let body = r.bytes(n);
-        let e = match r.below(12) {
+        let mut e = match r.below(12) {
             0..=3 => extension(b"TREE", &tree(r, odd)),
             4 => extension(b"sdir", if odd && r.one_in(4) { b"x" } else { b"" }),
             5 | 6 => extension(b"IEOT", &ieot(r)),
             7 => extension(r.pick(&[b"REUC", b"UNTR", b"FSMN", b"EOIE"]), &body),
-            8 if odd => extension(r.pick(&[b"link", b"abcd", b"zzzz", b"sdix", b"`abc", b"{abc", b"tree"]), &body),
-            9 if odd => extension(&[r.next() as u8, b'b', b'c', b'd'], &body),
-            _ => extension(r.pick(&[b"ABCD", b"ZZZZ", b"A\0\xff ", b"[abc", b"_abc", b"1abc"]), &body),
+            8 if odd => extension(r.pick(&[b"link", b"abcd", b"zzzz", b"sdix", b"Babc", b"Yabc", b"tree"]), &body),
+            9 if odd => extension(&[letter(r), b'b', b'c', b'd'], &body),
+            _ => extension(r.pick(&[b"ABCD", b"ZZZZ", b"A\0\xff ", b"Aabc", b"Zabc", b"Mabc"]), &body),
         };
+        if strays && r.one_in(3) {
+            e[0] = stray(r);
+        }
         out.extend(e);
     }
     if r.one_in(3) {
@@ -289,6 +309,15 @@ fn damage(r: &mut Rng, s: &mut Vec<u8>) {
 
 /// A file: everything before the trailer, perhaps damaged, then a trailer.
 pub fn file(r: &mut Rng) -> Vec<u8> {
+    file_with(r, false)
+}
+
+/// A file in which stray signatures are common.
+pub fn stray_file(r: &mut Rng) -> Vec<u8> {
+    file_with(r, true)
+}
+
+fn file_with(r: &mut Rng, strays: bool) -> Vec<u8> {
     let odd = !r.one_in(3);
     let long = r.one_in(12);
     let version = if odd && r.one_in(60) { r.pick(&[0, 1, 5, 0x0200_0000]) } else { r.pick(&[2, 3, 4, 4]) };
@@ -307,7 +336,7 @@ pub fn file(r: &mut Rng) -> Vec<u8> {
     for p in paths {
         out.extend(spell(r, version, &mut previous, p, odd));
     }
-    extensions(r, &mut out, odd);
+    extensions(r, &mut out, odd, strays);
     if odd && r.one_in(12) {
         let n = 1 + r.below(9);
         out.extend(r.bytes(n));

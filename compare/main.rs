@@ -103,10 +103,10 @@ fn documented(j: &mut Judge, oracle: &Oracle) -> usize {
 }
 
 /// a. Generated files, each also asked for EOIE, and for IEOT after the header.
-fn files(j: &mut Judge, parts: &mut Judge, oracle: &Oracle, seed: u64, n: usize) {
+fn files(j: &mut Judge, parts: &mut Judge, oracle: &Oracle, file: fn(&mut Rng) -> Vec<u8>, seed: u64, n: usize) {
     let mut r = Rng::new(seed);
     for some in (0..n).collect::<Vec<_>>().chunks(4000) {
-        let files: Vec<Vec<u8>> = some.iter().map(|_| generate::file(&mut r)).collect();
+        let files: Vec<Vec<u8>> = some.iter().map(|_| file(&mut r)).collect();
         run(j, oracle, &files.iter().cloned().map(Case::File).collect::<Vec<_>>());
         // the oracle wants at least a byte
         let few = files.iter().filter(|s| !s.is_empty() && s.len() < 2000);
@@ -198,6 +198,7 @@ fn offset_tables(j: &mut Judge, oracle: &Oracle) {
                 extension(b"IEOT", &body),
                 [extension(b"IEOT", &[]), extension(b"IEOT", &body)].concat(),
                 [extension(b"link", b"x"), extension(b"IEOT", &body)].concat(),
+                [extension(b"0abc", b"x"), extension(b"IEOT", &body)].concat(),
                 [extension(b"IEOU", b""), extension(b"IEOT", &body), extension(b"IEOT", &[0, 0, 0, 1])].concat(),
             ] {
                 cases.push(Case::Ieot([e.as_slice(), &trailer].concat()));
@@ -222,7 +223,7 @@ fn end_of_entries(j: &mut Judge, oracle: &Oracle, seed: u64) {
         for _ in 0..round % 5 {
             let n = r.below(10);
             let body = r.bytes(n);
-            s.extend(extension(r.pick(&[b"TREE", b"sdir", b"link", b"ABCD", b"EOIE"]), &body));
+            s.extend(extension(r.pick(&[b"TREE", b"sdir", b"link", b"0abc", b"ABCD", b"EOIE"]), &body));
         }
         // every offset, with the hash that belongs to it and with that of the right one
         let right = generate::eoie(&s, 12);
@@ -454,8 +455,10 @@ fn make_answers(oracle: &Oracle, seed: u64) {
     let mut r = Rng::new(seed);
     let files: Vec<Case> =
         (0..8000).map(|_| Case::File(generate::file(&mut r))).filter(|c| c.line().len() < 440).collect();
+    let mut strays = Rng::new(seed ^ 0x57a1);
+    let strays = (0..800).map(|_| Case::File(generate::stray_file(&mut strays))).filter(|c| c.line().len() < 440);
     let mut cases: Vec<Case> = documented::all().into_iter().map(|c| c.1).collect();
-    cases.extend(files.iter().cloned());
+    cases.extend(files.iter().cloned().chain(strays));
     cases.extend(files.into_iter().take(400).filter_map(|c| {
         if let Case::File(s) = c {
             Some(Case::Eoie(s))
@@ -503,7 +506,7 @@ fn self_test(o: &Options, list: &str) -> bool {
         let n = replay(&mut j, &Oracle(None), list);
         if o.oracle.is_there() {
             let mut other = Judge::new(plant);
-            files(&mut j, &mut other, &o.oracle, o.seed, 1000);
+            files(&mut j, &mut other, &o.oracle, generate::file, o.seed, 1000);
             tables(&mut other, &o.oracle, o.seed, 500);
             written(&mut other, &o.oracle, o.seed, 500);
             let both = plant == Plant::Nothing
@@ -570,8 +573,11 @@ fn main() {
         let n = documented(&mut j, &o.oracle);
         done(&format!("the {n} inputs of docs/DIFFERENCES.md"), j);
         let (mut j, mut other) = (Judge::new(Plant::Nothing), Judge::new(Plant::Nothing));
-        files(&mut j, &mut other, &o.oracle, o.seed, 40_000 * o.times);
+        files(&mut j, &mut other, &o.oracle, generate::file, o.seed, 40_000 * o.times);
         done(&format!("a. {} generated files", 40_000 * o.times), j);
+        let mut j = Judge::new(Plant::Nothing);
+        files(&mut j, &mut other, &o.oracle, generate::stray_file, o.seed ^ 0x57a1, 10_000 * o.times);
+        done(&format!("   {} generated files with stray signatures", 10_000 * o.times), j);
         done("   EOIE and IEOT of these files", other);
         let mut j = Judge::new(Plant::Nothing);
         tables(&mut j, &o.oracle, o.seed, 25_000 * o.times);

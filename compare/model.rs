@@ -1,5 +1,5 @@
-//! Document 01's reader once more, plainly, with the rows of docs/DIFFERENCES.md as switches: without them it says what the library must answer and leave in its
-//! stores, with them what the Rust answers. So a difference is known only if a rule gives both sides of it.
+//! Document 01's reader once more, as A4 of 02 amends it, plainly, with the rows of docs/DIFFERENCES.md as switches: without them it says what the library must
+//! answer and leave in its stores, with them what the Rust answers. So a difference is known only if a rule gives both sides of it.
 
 pub use crate::declarations::{NODE_SIZE as NODE, RECORD_SIZE as RECORD};
 
@@ -23,9 +23,10 @@ pub enum Row {
     D11,
     D12,
     D15,
+    D18,
 }
 
-pub const ROWS: [(Row, &str); 13] = [
+pub const ROWS: [(Row, &str); 14] = [
     (Row::D1, "D1   more entries than the bytes, or EOIE's offset, leave room for"),
     (Row::D2, "D2   a V4 number above 2^64 - 1"),
     (Row::D3, "D3   field 4095: padding behind the NUL"),
@@ -39,6 +40,7 @@ pub const ROWS: [(Row, &str); 13] = [
     (Row::D11, "D11  a node table that is not proper, by its depth"),
     (Row::D12, "D12  a written file with a path of 4095 bytes or more, read back"),
     (Row::D15, "D15  lookup in a table that is not sorted"),
+    (Row::D18, "D18  a stray signature: its first byte is no letter"),
 ];
 
 #[derive(Clone, PartialEq, Debug)]
@@ -319,10 +321,16 @@ impl Walk<'_> {
                 b"EOIE" => self.run.eoie = true,
                 b"IEOT" => self.run.ieot = true,
                 b"sdir" if size == 0 => self.run.reading.sparse = true,
-                _ if signature[0].is_ascii_lowercase() => {
-                    return self.refuse(8, word(s, at) as u64, mandatory(word(s, at)))
+                _ if signature[0].is_ascii_uppercase() => {}
+                _ => {
+                    let stray = !signature[0].is_ascii_lowercase();
+                    if stray {
+                        self.hit(Row::D18);
+                    }
+                    if !(self.rust && stray) {
+                        return self.refuse(8, word(s, at) as u64, mandatory(word(s, at)));
+                    }
                 }
-                _ => {}
             }
             at = body + size;
         }

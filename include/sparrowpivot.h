@@ -46,7 +46,7 @@ enum sparrowpivot_refusal {
     SPARROWPIVOT_NO_ENTRY_ROOM = 6,  /* record or path room is missing for an entry; carries its index */
     /* 7 and 8 leave all entries; the node store is as it was. */
     SPARROWPIVOT_NOT_FILLED = 7,     /* extensions do not fill their space; carries the place in the file */
-    SPARROWPIVOT_MANDATORY = 8,      /* an extension that must be understood and is not; carries its signature, big-endian */
+    SPARROWPIVOT_MANDATORY = 8,      /* an extension that begins with no letter A to Z, and is no empty "sdir"; carries its signature, big-endian */
     /* 9 and 10 leave all entries, and every byte of the node store is 0. */
     SPARROWPIVOT_TOO_DEEP = 9,       /* the tree is deeper than 64 levels */
     SPARROWPIVOT_NO_NODE_ROOM = 10,  /* the tree needs one more node than there is room for */

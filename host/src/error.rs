@@ -40,9 +40,10 @@ pub enum Refusal {
         /// The place in the file at which the fault begins.
         place: u64,
     },
-    /// 8: an extension must be understood, and is not; or `sdir` is not empty.
+    /// 8: an extension must be understood, and is not; or `sdir` is not empty. One may be passed over only if its first
+    /// byte is a letter from A to Z.
     Mandatory {
-        /// Its four bytes.
+        /// Its four bytes, of any value.
         signature: [u8; 4],
     },
     /// 9: the tree is deeper than 64 levels.

@@ -90,6 +90,26 @@ fn files_that_cannot_be_read() {
     assert_eq!(Index::from_bytes(file(2, 0, &[&extension(b"TREE", &deep(64))])).unwrap().tree().unwrap().len(), 64);
 }
 
+/// An extension whose first byte is none of A to Z must be understood, and its signature is told so that it can be read.
+#[test]
+fn stray_signatures() {
+    let told = |signature: &[u8; 4], words: &str| {
+        let number = u32::from_be_bytes(*signature);
+        let refusal = format!("refused 8: the extension \"{words}\" ({number}) must be understood, and is not");
+        refused(&file(2, 0, &[&extension(signature, b"")]), &refusal);
+    };
+    told(b"\0\0\0\0", "\\x00\\x00\\x00\\x00");
+    told(b"\xff\xff\xff\xff", "\\xff\\xff\\xff\\xff");
+    told(b"\0\xffab", "\\x00\\xffab");
+    told(b"0abc", "0abc");
+    told(b"@abc", "@abc");
+    told(b"[abc", "[abc");
+    told(b"_abc", "_abc");
+    for capital in [b"Aabc", b"Zabc"] {
+        assert!(Index::from_bytes(file(2, 0, &[&extension(capital, b"x")])).is_ok());
+    }
+}
+
 #[test]
 fn order_and_stage() {
     let index = Index::from_bytes(file(2, 2, &[&entry(b"a"), &entry(b"a")])).unwrap();

@@ -9,7 +9,7 @@ use native.Mathlib.Omega.{arith}
 use lib.ListN.{length, getD, take, drop, length-append, length-drop, take-append-drop}
 use lib.Seq.{drop-drop, take-at, drop-at, length-take-le, drop-length}
 use Rattle.laws.specs.Pick.{pick}
-use Rattle.laws.specs.Tests.{Less, less, not-less, less?, AtMost, at-most, above, at-most?, Same, same, differs, same?, lt-or-ge}
+use Rattle.laws.specs.Tests.{Less, less, not-less, less?, Same, same, differs, same?, lt-or-ge}
 use Rattle.laws.specs.Read.{Begins, cut}
 use Rattle.laws.specs.Fill.{done, more}
 use Rattle.laws.specs.Lists.{length-part}
@@ -18,7 +18,7 @@ use Rattle.wire.specs.Places.{fileAt}
 use Rattle.wire.specs.declared.FileAt.{FileAt}
 use Rattle.extension.specs.Signatures as reader
 use Rattle.extension.specs.Iter.{Found, filled, stray, bodyOf}
-use Rattle.extension.specs.Decode.{forbidden, isForbidden}
+use Rattle.extension.specs.Decode.{forbidden, isForbidden, optional as optionalFirst}
 use Rattle.extension.specs.Theorems.{Fits, Stands, Chain, chain-filled, chain-stray, chain-more}
 use Rattle.extension.specs.Filling as filling
 use Rattle.extension.specs.declared.iter.Body.{Body}
@@ -29,6 +29,7 @@ use Rattle.grammar.specs.Fault as fault
 use Rattle.grammar.specs.Fault.{Faulty, stray-bytes, refused-extension}
 use Rattle.grammar.specs.File.{Tells, it-is, it-is-not}
 use Rattle.grammar.specs.DecideNumber.{big-endian-length}
+use Rattle.grammar.specs.DecideExtension.{isOptional, OptionalOrNot, is-optional, is-mandatory, optional?}
 use Rattle.claims_entries.specs.Rendering.{Bytes}
 use Rattle.claims_entries.specs.Fields.{bytes-left}
 use Rattle.claims_extension.specs.Words.{bytes-within, FourBytes, signature-injective, big-endian-before, big-endian-value, first-byte, sdir-bytes}
@@ -48,7 +49,7 @@ pub data Judged (e : Ext) : Bool → Type 0 where
   may-not : (Allowed e → ⊥) → Judged e true
 
 must-be-sdir : {e : Ext} → Mandatory (e .signature) → Allowed e → (e .signature ≡ sdir) × (e .body ≡ [])
-must-be-sdir m (optional o) = absurd (o m)
+must-be-sdir m (optional o) = absurd (m o)
 must-be-sdir m empty-sdir = (refl, refl)
 
 no-bytes : (b : List ℕ) → length b ≤ 0 → b ≡ []
@@ -56,25 +57,21 @@ no-bytes [] h = refl
 no-bytes (c ∷ b) h = absurd (omega arith)
 
 pub judged : {at : ℕ} {f : Found} {e : Ext} → SameExtension at f e → Judged e (isForbidden f)
-unfolding forbidden
+unfolding forbidden isOptional
 judged {at} {f} {e} x =
     let p : f .start .0 ≡ at + extensionHeader = ap (λ (y : FileAt). y .0) (x .starts) in
     let q : f .stop .0 ≡ at + extensionHeader + length (e .body) = ap (λ (y : FileAt). y .0) (x .stops) in
-    let first : reader.firstByte (f .signature) ≡ getD (e .signature) 0 0 = ap reader.firstByte (x .named) ∙ first-byte (x .four) in
-    go p q first (at-most? 97 (reader.firstByte (f .signature))) (at-most? (reader.firstByte (f .signature)) 122) (same? (f .signature) reader.sdir) (less? (f .start .0) (f .stop .0))
+    let first : getD (e .signature) 0 0 ≡ reader.firstByte (f .signature) = sym (ap reader.firstByte (x .named) ∙ first-byte (x .four)) in
+    let o : OptionalOrNot (e .signature) (optionalFirst (reader.firstByte (f .signature)))
+    = subst (λ (b : ℕ). OptionalOrNot (e .signature) (optionalFirst b)) first (optional? (e .signature)) in
+    go p q o (same? (f .signature) reader.sdir) (less? (f .start .0) (f .stop .0))
   where
-    go : f .start .0 ≡ at + extensionHeader → f .stop .0 ≡ at + extensionHeader + length (e .body) → reader.firstByte (f .signature) ≡ getD (e .signature) 0 0
-        → {t u v w : Bool} → AtMost 97 (reader.firstByte (f .signature)) t → AtMost (reader.firstByte (f .signature)) 122 u → Same (f .signature) reader.sdir v → Less (f .start .0) (f .stop .0) w
-        → Judged e (pick (pick t u false) (pick v w true) false)
-    go p q r (above h) u v w = may-stand (optional {e = e} (λ m. omega (arith, m .least)))
-    go p q r (at-most h) (above k) v w = may-stand (optional {e = e} (λ m. omega (arith, m .most)))
-    go p q r (at-most h) (at-most k) (differs d) w =
-        let m : Mandatory (e .signature) = record { least = omega arith; most = omega arith } in
-        may-not (λ a. d (x .named ∙ ap bigEndian (must-be-sdir m a .0)))
-    go p q r (at-most h) (at-most k) (same i) (less l) =
-        let m : Mandatory (e .signature) = record { least = omega arith; most = omega arith } in
-        may-not (λ a. omega (arith, ap length (must-be-sdir m a .1)))
-    go p q r (at-most h) (at-most k) (same i) (not-less l) =
+    go : f .start .0 ≡ at + extensionHeader → f .stop .0 ≡ at + extensionHeader + length (e .body)
+        → {t v w : Bool} → OptionalOrNot (e .signature) t → Same (f .signature) reader.sdir v → Less (f .start .0) (f .stop .0) w → Judged e (pick (pick t false true) (pick v w true) false)
+    go p q (is-optional o) v w = may-stand (optional {e = e} o)
+    go p q (is-mandatory m) (differs d) w = may-not (λ a. d (x .named ∙ ap bigEndian (must-be-sdir m a .0)))
+    go p q (is-mandatory m) (same i) (less l) = may-not (λ a. omega (arith, ap length (must-be-sdir m a .1)))
+    go p q (is-mandatory m) (same i) (not-less l) =
         let s : e .signature ≡ sdir = signature-injective (x .four) sdir-bytes (sym (x .named) ∙ i) in
         let b : e .body ≡ [] = no-bytes (e .body) (omega arith) in
         let j : ext sdir [] ≡ e = λ n. ext (sym s n) (sym b n) in

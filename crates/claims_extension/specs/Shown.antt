@@ -51,7 +51,7 @@ odd-walk = refl
 
 odd-spelled : Extensions odd-space (ext odd [] ∷ [])
 odd-spelled =
-    more {b = odd-space} {c = []} (record { is-framed = framed {signature = odd} {size = 0 ∷ 0 ∷ 0 ∷ 0 ∷ []} {body = []} refl (big-endian refl); is-allowed = optional {e = ext odd []} (λ m. omega (arith, m .least)) })
+    more {b = odd-space} {c = []} (record { is-framed = framed {signature = odd} {size = 0 ∷ 0 ∷ 0 ∷ 0 ∷ []} {body = []} refl (big-endian refl); is-allowed = optional {e = ext odd []} (record { least = omega arith; most = omega arith }) })
     done
 
 odd-none : NoneSigned TREE (ext odd [] ∷ [])

@@ -4,13 +4,13 @@ use mathlib.Core.Path.{_≡_, refl, sym, ap, _∙_, subst}
 use mathlib.Core.Bool.{Bool, true, false}
 use mathlib.Core.List.{List, [], _∷_, _++_, append-assoc, append-nil}
 use native.Mathlib.Omega.{arith}
-use lib.Dec.{lit<}
+use lib.Dec.{lit<, lit≤}
 use lib.ListN.{length, getD, length-append}
 use Rattle.laws.specs.Pick.{pick}
 use Rattle.laws.specs.Fill.{Fill, done, more}
 use Rattle.wire.specs.BigEndian.{bytesOf, length-bytes}
 use Rattle.kind.specs.Kind.{Kind}
-use Rattle.grammar.specs.Extension.{Ext, ext, Framed, framed, Mandatory, sdir, TREE, Allowed, optional, empty-sdir, Extension, Extensions, NoneSigned, none-left, another, LastSigned, last-signed}
+use Rattle.grammar.specs.Extension.{Ext, ext, Framed, framed, Optional, sdir, TREE, Allowed, optional, empty-sdir, Extension, Extensions, NoneSigned, none-left, another, LastSigned, last-signed}
 use Rattle.grammar.specs.File.{Some, this, other, Tells, it-is, it-is-not}
 use Rattle.claims_extension.specs.Said.{HasSdir}
 use Rattle.write.specs.File.{Extension as Written, extensionHead, extensionsFor, extensionsOf, eoiePart}
@@ -39,9 +39,11 @@ framed-here : (signature body : List ℕ) → length signature ≡ 4 → length 
 unfolding extensionHead
 framed-here signature body l h = rw (append-assoc signature (bytesOf 4 (length body)) body) (framed l (big 4 (length body) h))
 
--- a first byte below 97
-not-mandatory : (signature : List ℕ) → getD signature 0 0 < 97 → Mandatory signature → ⊥
-not-mandatory signature h m = omega (arith, m .least)
+TREE-optional : Optional TREE
+TREE-optional = record { least = lit≤ tt; most = lit≤ tt }
+
+EOIE-optional : Optional EOIE
+EOIE-optional = record { least = lit≤ tt; most = lit≤ tt }
 
 -- what a written extension means
 abbrev meant : Written → Ext
@@ -64,8 +66,8 @@ list-spelled (one-sound {e = e} l h allowed rest) = more (record { is-framed = f
 
 -- TREE and `sdir` are sound
 sound-for : (writes : Bool) (tree : List ℕ) (sparse : Bool) → (writes ≡ true → length tree < 2 ^ 32) → Sound (extensionsFor writes tree sparse)
-sound-for true tree true h = one-sound refl (h refl) (optional (not-mandatory TREE (lit< tt))) (one-sound refl (lit< tt) empty-sdir no-other)
-sound-for true tree false h = one-sound refl (h refl) (optional (not-mandatory TREE (lit< tt))) no-other
+sound-for true tree true h = one-sound refl (h refl) (optional TREE-optional) (one-sound refl (lit< tt) empty-sdir no-other)
+sound-for true tree false h = one-sound refl (h refl) (optional TREE-optional) no-other
 sound-for false tree true h = one-sound refl (lit< tt) empty-sdir no-other
 sound-for false tree false h = no-other
 
@@ -85,7 +87,7 @@ eoie-part kind true offset toc =
     let f : Framed (extensionHead EOIE (length body) ++ body) (ext EOIE body) = framed-here EOIE body refl (omega (arith, kind .fits)) in
     let e : extensionHead EOIE (length body) ++ body ≡ (extensionHead EOIE (4 + kind .id) ++ bytesOf 4 offset) ++ kind .hash toc =
     ap (λ (j : ℕ). extensionHead EOIE j ++ body) k ∙ sym (append-assoc (extensionHead EOIE (4 + kind .id)) (bytesOf 4 offset) (kind .hash toc)) in
-    one (record { is-framed = subst (λ (b : List ℕ). Framed b (ext EOIE body)) e f; is-allowed = optional (not-mandatory EOIE (lit< tt)) })
+    one (record { is-framed = subst (λ (b : List ℕ). Framed b (ext EOIE body)) e f; is-allowed = optional EOIE-optional })
 
 -- ---- all of them
 

@@ -128,14 +128,14 @@ module _ (s : List ℕ) (c : Cursor) (x : Step) (e : x ≡ stepAt s (c .at .0) (
         let f : Met s (c .at .0) (c .end .0) signature start stop next = met s (c .at .0) (c .end .0) (sym e ∙ q) in
         rw (f .place, f .bound, a, b) (sym (rw (run-more s (c .at .0) (c .end .0) (sym e ∙ q), ← o, y)) ∙ inv)
 
-pub mandatory-under : (b : ℕ) → b < 97 → false ≡ mandatory b
-mandatory-under b h = sym (rw (lt-leb 97 b h))
+pub mandatory-under : (b : ℕ) → b < 65 → true ≡ mandatory b
+mandatory-under b h = sym (rw (lt-leb 65 b h))
 
-pub mandatory-over : (b : ℕ) → 123 ≤ b → false ≡ mandatory b
-mandatory-over b h = let k : 97 ≤ b = omega arith in let l : 122 < b = omega arith in sym (rw (le-leb 97 b k, lt-leb b 122 l))
+pub mandatory-over : (b : ℕ) → 91 ≤ b → true ≡ mandatory b
+mandatory-over b h = let k : 65 ≤ b = omega arith in let l : 90 < b = omega arith in sym (rw (le-leb 65 b k, lt-leb b 90 l))
 
-pub mandatory-is : (b : ℕ) → 97 ≤ b → b < 123 → true ≡ mandatory b
-mandatory-is b h k = let l : b ≤ 122 = omega arith in sym (rw (le-leb 97 b h, le-leb b 122 l))
+pub mandatory-not : (b : ℕ) → 65 ≤ b → b < 91 → false ≡ mandatory b
+mandatory-not b h k = let l : b ≤ 90 = omega arith in sym (rw (le-leb 65 b h, le-leb b 90 l))
 
 module _ (signature start stop : ℕ) (t : Bool) (e : t ≡ mandatory (firstByte signature)) where
   pub forbidden-sdir : t ≡ true → signature ≡ sdir → ltb start stop ≡ forbidden signature start stop
@@ -167,7 +167,7 @@ module _ (wanted signature : ℕ) (start stop : FileAt) (last : Body) where
 pub latest-bodies : (signature : ℕ) (start stop : FileAt) (last : Bodies) (tree : Body) → tree ≡ latest TREE signature start stop (last .tree) → record { tree = tree } ≡ latestOf signature start stop last
 latest-bodies signature start stop last tree e = λ i. record { tree = e i }
 
-pub ruleset walks = (latest-bodies, step-less, all-done, all-broken, all-forbidden, all-next, mandatory-under, mandatory-over, mandatory-is, forbidden-sdir, forbidden-other, forbidden-not, marks-sdir, marks-other, latest-this, latest-before)
+pub ruleset walks = (latest-bodies, step-less, all-done, all-broken, all-forbidden, all-next, mandatory-under, mandatory-over, mandatory-not, forbidden-sdir, forbidden-other, forbidden-not, marks-sdir, marks-other, latest-this, latest-before)
 
 -- ---- IEOT
 

@@ -1,5 +1,5 @@
--- The space behind the entries (01, "Extensions": "They fill the space from the last entry to the last 20 bytes exactly") and rows 7 and 8 of "When the desk says no".
--- Assumes nothing.
+-- The space behind the entries (01, "Extensions": "They fill the space from the last entry to the last 20 bytes exactly"; 02, A4) and rows 7 and 8 of "When the desk says
+-- no". Assumes nothing.
 use Prim.Native.Nat.{ℕ}
 use mathlib.Core.Bool.{Bool, true, false}
 use mathlib.Core.List.{List, [], _∷_}
@@ -16,9 +16,12 @@ use Rattle.extension.specs.declared.decode.Bodies.{Bodies}
 use Rattle.extension.specs.declared.decode.Space.{Space}
 use Rattle.extension.specs.declared.decode.Space.the-variants.{Filled, NotFilled, Mandatory}
 
--- an extension is mandatory when its signature's first byte lies in 97 to 122
+-- an extension is optional when its signature's first byte lies in 65 to 90, and else mandatory
+abbrev pub optional : ℕ → Bool
+optional first = pick (leb 65 first) (leb first 90) false
+
 abbrev pub mandatory : ℕ → Bool
-mandatory first = pick (leb 97 first) (leb first 122) false
+mandatory first = pick (optional first) false true
 
 -- what makes a reader stop: a mandatory extension that is no empty `sdir`
 unfoldable pub forbidden : ℕ → ℕ → ℕ → Bool

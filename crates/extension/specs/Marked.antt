@@ -24,12 +24,15 @@ use Rattle.extension.specs.declared.index_entry_offset_table.Offset.{Off
 use Rattle.extension.specs.declared.index_entry_offset_table.Offset.the-variants.{Pair, NoPair}
 use Rattle.extension.specs.declared.end_of_index_entry.Told.the-variants.{Offset as To, Nothing}
 
--- "link", "ABCD"
+-- "link", "ABCD", "0abc"
 abbrev pub link : ℕ
 link = 1818848875
 
 abbrev pub ABCD : ℕ
 ABCD = 1094861636
+
+abbrev pub digit : ℕ
+digit = 811688547
 
 -- an extension that says another size than its body has
 pub sized : ℕ → ℕ → List ℕ → List ℕ
@@ -60,13 +63,33 @@ pub record Spaces : Type 0 where
   -- `link`, and an `sdir` that is not empty
   pub linked : walked (ext link []) ≡ Mandatory link
   pub full-sdir : walked (ext sdir (0 ∷ [])) ≡ Mandatory sdir
+  -- signatures that begin with no letter, of any bytes
+  pub digit-first : walked (ext digit []) ≡ Mandatory digit
+  pub of-zeros : walked (ext 0 []) ≡ Mandatory 0
+  pub of-ones : walked (ext 4294967295 []) ≡ Mandatory 4294967295
   -- at one header 7 comes first; else the first in file order
   pub seven-first : walked (sized link 1 []) ≡ NotFilled (fileAt 12)
+  pub seven-before-digit : walked (sized digit 1 []) ≡ NotFilled (fileAt 12)
   pub eight-first : walked (ext link [] ++ (120 ∷ [])) ≡ Mandatory link
 
 pub space : Spaces
 unfolding walked fileOf ext sized bytesOf beAt allAt runAt runBy stepAt judged forbidden sparseIn lastWhere
-space = record { empty = refl; several = refl; overrun = refl; stray-byte = refl; stray-behind = refl; linked = refl; full-sdir = refl; seven-first = refl; eight-first = refl }
+space =
+    record {
+      empty = refl;
+      several = refl;
+      overrun = refl;
+      stray-byte = refl;
+      stray-behind = refl;
+      linked = refl;
+      full-sdir = refl;
+      digit-first = refl;
+      of-zeros = refl;
+      of-ones = refl;
+      seven-first = refl;
+      seven-before-digit = refl;
+      eight-first = refl;
+    }
 
 -- the numbers that 01 gives, with what is carried
 pub record Numbers : Type 0 where
@@ -79,8 +102,8 @@ pub numbers : Numbers
 unfolding walked fileOf ext sized bytesOf beAt allAt runAt runBy stepAt judged forbidden sparseIn lastWhere
 numbers = record { seven = refl; place = refl; eight = refl; signature = refl }
 
--- the letters a to z, and what stands before and behind them
-pub letters : mandatory 96 ∷ mandatory 97 ∷ mandatory 122 ∷ mandatory 123 ∷ [] ≡ false ∷ true ∷ true ∷ false ∷ []
+-- the letters A to Z, and what stands before and behind them
+pub letters : mandatory 64 ∷ mandatory 65 ∷ mandatory 90 ∷ mandatory 91 ∷ [] ≡ true ∷ false ∷ false ∷ true ∷ []
 letters = refl
 
 -- ---- IEOT
@@ -99,6 +122,8 @@ two = ext IEOT (bytesOf 4 1 ++ bytesOf 4 12 ++ bytesOf 4 5 ++ bytesOf 4 400 ++ b
 
 pub record Tables : Type 0 where
   pub pairs : ieot (ext ABCD (9 ∷ []) ++ two) ≡ Pairs 2
+  -- the search judges nothing that it passes
+  pub behind-digit : ieot (ext digit (9 ∷ []) ++ two) ≡ Pairs 2
   pub second : ieotPair two 1 ≡ Pair 400 6
   pub beyond : ieotPair two 2 ≡ NoPair
   -- the first alone counts, though it is malformed
@@ -116,7 +141,7 @@ pub record Tables : Type 0 where
 
 pub tables : Tables
 unfolding ieot ieotPair one two fileOf ext sized bytesOf beAt tableFrom pairFrom tableIn tableAt pairIn firstAt firstWhere runAt runBy stepAt
-tables = record { pairs = refl; second = refl; beyond = refl; first = refl; malformed = refl; version = refl; no-pair = refl; over = refl; stopped = refl; short = refl; far = refl }
+tables = record { pairs = refl; behind-digit = refl; second = refl; beyond = refl; first = refl; malformed = refl; version = refl; no-pair = refl; over = refl; stopped = refl; short = refl; far = refl }
 
 -- ---- EOIE
 
@@ -127,12 +152,20 @@ hash = 0xf9 ∷ 0x12 ∷ 0x9b ∷ 0x9a ∷ 0x47 ∷ 0xd3 ∷ 0xee ∷ 0xba ∷ 0
 pub ending : ℕ → List ℕ
 ending offset = fileOf (ext 1094795585 (replicate 56 0) ++ ext EOIE (bytesOf 4 offset ++ hash))
 
+-- the same with an extension "0abc", which this search does not judge either
+pub digitHash : List ℕ
+digitHash = 0xd2 ∷ 0x51 ∷ 0x5e ∷ 0x58 ∷ 0xb5 ∷ 0x6d ∷ 0x60 ∷ 0xaf ∷ 0x67 ∷ 0x06 ∷ 0xe2 ∷ 0xd6 ∷ 0x93 ∷ 0x0c ∷ 0x0f ∷ 0xb0 ∷ 0x42 ∷ 0xf3 ∷ 0x9f ∷ 0x36 ∷ []
+
+pub digitEnding : List ℕ
+digitEnding = fileOf (ext digit (replicate 56 0) ++ ext EOIE (bytesOf 4 12 ++ digitHash))
+
 pub record Endings : Type 0 where
   pub told : offsetIn sha1Kind (ending 12) ≡ To (fileAt 12)
+  pub behind-digit : offsetIn sha1Kind digitEnding ≡ To (fileAt 12)
   pub low : offsetIn sha1Kind (ending 11) ≡ Nothing
   pub high : offsetIn sha1Kind (ending 77) ≡ Nothing
   pub short : offsetIn sha1Kind (replicate 51 0) ≡ Nothing
 
 pub endings : Endings
-unfolding ending hash fileOf ext sized bytesOf beAt offsetIn offsetAt verifiedAt headersOf flatten lastWhere runAt runBy stepAt sameBytes rotl ch parity maj mixOf constOf zerosOf padding initial wordsOf nextWord extend schedule turn rounds added compress hashBlocks digestOf sha1
-endings = record { told = refl; low = refl; high = refl; short = refl }
+unfolding ending hash digitHash digitEnding fileOf ext sized bytesOf beAt offsetIn offsetAt verifiedAt headersOf flatten lastWhere runAt runBy stepAt sameBytes rotl ch parity maj mixOf constOf zerosOf padding initial wordsOf nextWord extend schedule turn rounds added compress hashBlocks digestOf sha1
+endings = record { told = refl; behind-digit = refl; low = refl; high = refl; short = refl }

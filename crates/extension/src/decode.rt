@@ -22,13 +22,13 @@ pub enum Space {
     Mandatory(u32),
 }
 
-// Whether an extension must be understood, by its signature's first byte.
+// Whether an extension must be understood, by its signature's first byte: a reader may pass over those from A to Z alone.
 fn is_mandatory(first: u8) -> bool
     ensures { λ r. ⌜ r ≡ mandatory first ⌝ }
 {
     match first {
-        97..=122 => true,
-        _ => false,
+        b'A'..=b'Z' => false,
+        _ => true,
     }
 }
 

@@ -15,7 +15,7 @@ use Rattle.laws.specs.Read.{Got, got, none, Says, spelled, refused, Reads, next
 use Rattle.laws.specs.Fill.{Filled, filled, broken, Breaks, readFill, fill-accepts, fill-broken}
 use Rattle.laws.specs.Order.{Comparison, below, equal, beyond, compared, compares, Compares, is-below, is-equal, is-beyond, irreflexive, compared-same, Before}
 use Rattle.grammar.specs.Number.{BigEndian}
-use Rattle.grammar.specs.Extension.{Ext, ext, Framed, framed, extensionHeader, Mandatory, sdir, Allowed, optional, empty-sdir, Extension, Extensions, NoneSigned, none-left, another, bytesOf, LastSigned, last-signed}
+use Rattle.grammar.specs.Extension.{Ext, ext, Framed, framed, extensionHeader, Optional, Mandatory, sdir, Allowed, optional, empty-sdir, Extension, Extensions, NoneSigned, none-left, another, bytesOf, LastSigned, last-signed}
 use Rattle.grammar.specs.DecideNumber.{Bytes, bytes, readBytes, bytes-reads, readBig, big-reads}
 
 -- ---- two lists are the same
@@ -68,24 +68,24 @@ framed-reads = record { says = says; complete = complete }
 
 -- ---- which may stand
 
-unfoldable pub mandatory : List ℕ → Bool
-mandatory s = pick (leb 97 (getD s 0 0)) (leb (getD s 0 0) 122) false
+unfoldable pub isOptional : List ℕ → Bool
+isOptional s = pick (leb 65 (getD s 0 0)) (leb (getD s 0 0) 90) false
 
-pub data IsMandatory (s : List ℕ) : Bool → Type 0 where
-  is-mandatory : Mandatory s → IsMandatory s true
-  is-optional : (Mandatory s → ⊥) → IsMandatory s false
+pub data OptionalOrNot (s : List ℕ) : Bool → Type 0 where
+  is-optional : Optional s → OptionalOrNot s true
+  is-mandatory : Mandatory s → OptionalOrNot s false
 
-pub mandatory? : (s : List ℕ) → IsMandatory s (mandatory s)
-unfolding mandatory
-mandatory? s = go (at-most? 97 (getD s 0 0)) (at-most? (getD s 0 0) 122)
+pub optional? : (s : List ℕ) → OptionalOrNot s (isOptional s)
+unfolding isOptional
+optional? s = go (at-most? 65 (getD s 0 0)) (at-most? (getD s 0 0) 90)
   where
-    go : {t u : Bool} → AtMost 97 (getD s 0 0) t → AtMost (getD s 0 0) 122 u → IsMandatory s (pick t u false)
-    go (at-most h) (at-most l) = is-mandatory (record { least = h; most = l })
-    go (at-most h) (above l) = is-optional (λ m. omega (arith, m .most))
-    go (above h) u = is-optional (λ m. omega (arith, m .least))
+    go : {t u : Bool} → AtMost 65 (getD s 0 0) t → AtMost (getD s 0 0) 90 u → OptionalOrNot s (pick t u false)
+    go (at-most h) (at-most l) = is-optional (record { least = h; most = l })
+    go (at-most h) (above l) = is-mandatory (λ o. omega (arith, o .most))
+    go (above h) u = is-mandatory (λ o. omega (arith, o .least))
 
 unfoldable pub allowed : Ext → Bool
-allowed e = pick (mandatory (e .signature)) (pick (sameList (e .signature) sdir) (sameList (e .body) []) false) true
+allowed e = pick (isOptional (e .signature)) true (pick (sameList (e .signature) sdir) (sameList (e .body) []) false)
 
 pub data IsAllowed (e : Ext) : Bool → Type 0 where
   is-allowed : Allowed e → IsAllowed e true
@@ -93,13 +93,13 @@ pub data IsAllowed (e : Ext) : Bool → Type 0 where
 
 pub allowed? : (e : Ext) → IsAllowed e (allowed e)
 unfolding allowed
-allowed? e = go (mandatory? (e .signature)) (same-list? (e .signature) sdir) (same-list? (e .body) [])
+allowed? e = go (optional? (e .signature)) (same-list? (e .signature) sdir) (same-list? (e .body) [])
   where
     not-optional : {e : Ext} → Mandatory (e .signature) → Allowed e → (e .signature ≡ sdir) × (e .body ≡ [])
-    not-optional m (optional o) = absurd (o m)
+    not-optional m (optional o) = absurd (m o)
     not-optional m empty-sdir = (refl, refl)
 
-    go : {t u v : Bool} → IsMandatory (e .signature) t → SameList (e .signature) sdir u → SameList (e .body) [] v → IsAllowed e (pick t (pick u v false) true)
+    go : {t u v : Bool} → OptionalOrNot (e .signature) t → SameList (e .signature) sdir u → SameList (e .body) [] v → IsAllowed e (pick t true (pick u v false))
     go (is-optional o) u v = is-allowed (optional o)
     go (is-mandatory m) (same-list i) (same-list j) =
         let k : ext sdir [] ≡ e = λ n. ext (sym i n) (sym j n) in

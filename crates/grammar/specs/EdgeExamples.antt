@@ -1,5 +1,5 @@
 -- Files at the edge of one rule each, with what they mean, and beside them files one step over it: the mark by an entry's mode, a number in groups above
--- 2^64 - 1, "+" before a count, and the first bytes that make an extension mandatory (01, "How an entry is spelled" and "Extensions"). Each holds by computing
+-- 2^64 - 1, "+" before a count, and the first bytes that make an extension optional (01, "How an entry is spelled" and "Extensions"; 02, A4). Each holds by computing
 -- what decides. Assumes nothing.
 use Prim.Native.Nat.{ℕ}
 use mathlib.Core.Path.{refl}
@@ -82,23 +82,51 @@ pub plus-minus : File 20 (counted (43 ∷ 45 ∷ 55 ∷ 32 ∷ 48 ∷ [])) (inde
 unfolding decided
 plus-minus = file-decided 20 _ _ .0 refl
 
--- ---- "An extension is mandatory when its first byte lies in 97 to 122; others are optional."
+-- ---- "every first byte outside 65 to 90 makes the extension mandatory" (02, A4)
 
 abbrev signed : ℕ → List ℕ
 signed first = header 2 1 ++ (entryA ++ (extension (first ∷ 82 ∷ 69 ∷ 69 ∷ []) (1 ∷ 2 ∷ []) ++ trailer))
 
-pub first-byte-96 : File 20 (signed 96) (index 2 (kept 0 (97 ∷ []) ∷ []) none)
+-- "A" and "Z"
+pub optional-at-A : File 20 (signed 65) (index 2 (kept 0 (97 ∷ []) ∷ []) none)
 unfolding decided
-first-byte-96 = file-decided 20 _ _ .0 refl
+optional-at-A = file-decided 20 _ _ .0 refl
 
-pub first-byte-97 : NoFile (signed 97)
+pub optional-at-Z : File 20 (signed 90) (index 2 (kept 0 (97 ∷ []) ∷ []) none)
 unfolding decided
-first-byte-97 = no-file-decided 20 _ .0 refl
+optional-at-Z = file-decided 20 _ _ .0 refl
 
-pub first-byte-122 : NoFile (signed 122)
+-- "@" and "["
+pub mandatory-before-A : NoFile (signed 64)
 unfolding decided
-first-byte-122 = no-file-decided 20 _ .0 refl
+mandatory-before-A = no-file-decided 20 _ .0 refl
 
-pub first-byte-123 : File 20 (signed 123) (index 2 (kept 0 (97 ∷ []) ∷ []) none)
+pub mandatory-behind-Z : NoFile (signed 91)
 unfolding decided
-first-byte-123 = file-decided 20 _ _ .0 refl
+mandatory-behind-Z = no-file-decided 20 _ .0 refl
+
+-- "0", "_", NUL and 255
+pub mandatory-digit : NoFile (signed 48)
+unfolding decided
+mandatory-digit = no-file-decided 20 _ .0 refl
+
+pub mandatory-underscore : NoFile (signed 95)
+unfolding decided
+mandatory-underscore = no-file-decided 20 _ .0 refl
+
+pub mandatory-NUL : NoFile (signed 0)
+unfolding decided
+mandatory-NUL = no-file-decided 20 _ .0 refl
+
+pub mandatory-of-ones : NoFile (signed 255)
+unfolding decided
+mandatory-of-ones = no-file-decided 20 _ .0 refl
+
+-- "a" and "z"
+pub mandatory-at-small-a : NoFile (signed 97)
+unfolding decided
+mandatory-at-small-a = no-file-decided 20 _ .0 refl
+
+pub mandatory-at-small-z : NoFile (signed 122)
+unfolding decided
+mandatory-at-small-z = no-file-decided 20 _ .0 refl

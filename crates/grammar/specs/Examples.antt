@@ -15,14 +15,14 @@ use Rattle.grammar.specs.Tree.{Tree, tree, childless, beside}
 use Rattle.grammar.specs.File.{Index, DIRC, File}
 use Rattle.grammar.specs.DecideNumber.{readBytes, readBig, readGroups, readVariable, readUntil, moreDigits, readDigits, readUnsigned, readSigned}
 use Rattle.grammar.specs.DecideEntry.{readWords, readFields, readFlags, readCounted, readToNul, readCompressed, readName, readEntry, readEntries}
-use Rattle.grammar.specs.DecideExtension.{sameList, readFramed, mandatory, allowed, readExtension, readExtensions, readLast}
+use Rattle.grammar.specs.DecideExtension.{sameList, readFramed, isOptional, allowed, readExtension, readExtensions, readLast}
 use Rattle.grammar.specs.DecideTree.{readId, readHead, otherNames, distinct, readNodes, readNode, readTree}
 use Rattle.grammar.specs.DecideFile.{readHeader, anyOf, sparseOf, readCacheTree, readFile}
 use Rattle.grammar.specs.Unique.{file-decided, no-file-decided}
 
 -- all that decides, open
 unfoldable pub decided : List ℕ → Option Index
-unfolding compared readTimes readFill readBytes readBig readGroups readVariable readUntil moreDigits readDigits readUnsigned readSigned readWords readFields readFlags readCounted readToNul readCompressed readName readEntry readEntries sameList readFramed mandatory allowed readExtension readExtensions readLast readId readHead otherNames distinct readNodes readNode readTree readHeader anyOf sparseOf readCacheTree readFile
+unfolding compared readTimes readFill readBytes readBig readGroups readVariable readUntil moreDigits readDigits readUnsigned readSigned readWords readFields readFlags readCounted readToNul readCompressed readName readEntry readEntries sameList readFramed isOptional allowed readExtension readExtensions readLast readId readHead otherNames distinct readNodes readNode readTree readHeader anyOf sparseOf readCacheTree readFile
 decided = readFile 20
 
 -- ---- parts of the files

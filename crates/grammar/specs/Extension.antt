@@ -1,5 +1,5 @@
 -- How extensions are spelled: they fill their space, and which of them may stand there; after gitformat-index, "Extensions" and "SPARSE DIRECTORY ENTRIES", and 01,
--- "Extensions". Assumes nothing.
+-- "Extensions", as 02's A4 amends it. Assumes nothing.
 use Prim.Native.Nat.{ℕ, _+_, _≤_}
 use mathlib.Core.Path.{_≡_}
 use mathlib.Core.List.{List, [], _∷_, _++_}
@@ -23,10 +23,14 @@ pub data Framed : List ℕ → Ext → Type 0 where
 abbrev pub extensionHeader : ℕ
 extensionHeader = 8
 
--- "An extension is mandatory when its first byte lies in 97 to 122; others are optional."
-pub record Mandatory (signature : List ℕ) : Type 0 where
-  pub least : 97 ≤ getD signature 0 0
-  pub most : getD signature 0 0 ≤ 122
+-- "If the first byte is 'A'..'Z' the extension is optional and can be ignored."
+pub record Optional (signature : List ℕ) : Type 0 where
+  pub least : 65 ≤ getD signature 0 0
+  pub most : getD signature 0 0 ≤ 90
+
+-- 02, A4: "every first byte outside 65 to 90 makes the extension mandatory"
+abbrev pub Mandatory : List ℕ → Type 0
+Mandatory signature = ¬ Optional signature
 
 -- "sdir" and "TREE"
 abbrev pub sdir : List ℕ
@@ -37,7 +41,7 @@ TREE = 84 ∷ 82 ∷ 69 ∷ 69 ∷ []
 
 -- "`sdir` must be empty and marks the index sparse. Every other mandatory one is refused."
 pub data Allowed : Ext → Type 0 where
-  optional : {e : Ext} → (Mandatory (e .signature) → ⊥) → Allowed e
+  optional : {e : Ext} → Optional (e .signature) → Allowed e
   empty-sdir : Allowed (ext sdir [])
 
 pub record Extension (b : List ℕ) (e : Ext) : Type 0 where
