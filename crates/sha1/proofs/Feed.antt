@@ -1,35 +1,45 @@
--- Laws of `joined`, `fill_up`, `feed` and `finish`: what the code leaves in a digest is what `feedState` says. Assumes nothing.
+-- Laws of `join`, `fill_up`, `feed` and `finish`: what the code leaves in a digest is what `feedState` says. Assumes nothing.
 use mathlib.Core.Path.{_≡_, refl, sym, ap, _∙_}
-use mathlib.Core.List.{List, [], _∷_, _++_, append-assoc}
+use mathlib.Core.List.{List, [], _∷_, _++_, append-assoc, append-nil}
 use Prim.Native.Nat.{ℕ, _+_, _-_, _*_, _/_, _%_, _^_, _≤_, _<_}
 use native.Mathlib.Nat.{zero-add}
 use native.Mathlib.Numerals.{add-one}
 use native.Mathlib.Omega.{arith}
-use lib.ListN.{length, take, drop, set, replicate, length-append, length-drop, take-append-drop}
-use lib.Seq.{paste, take-paste, take-all, length-take-le, drop-drop, take-at, drop-length, take-length}
-use Rattle.laws.specs.Lists.{length-part}
-use Rattle.laws.specs.Paste.{paste-then, paste-take}
+use lib.ListN.{length, take, drop, set, replicate, length-append, length-drop, length-replicate, take-append-drop, drop-of-length-le}
+use lib.Seq.{paste, take-paste, length-paste, length-paste-head, take-all, length-take-le, drop-drop, take-at, drop-length, take-length}
 use Rattle.wire.specs.BigEndian.{bytesOf, length-bytes}
-use Rattle.laws.specs.Lists.{take-replicate, drop-replicate}
+use Rattle.laws.specs.Lists.{length-part, take-replicate}
 use Rattle.sha1.specs.Sha1.{compress, hashBlocks, hashAll, zerosOf, padding}
 use Rattle.sha1.specs.Pieces.{lastPart, feedState, filled, fed}
 use Rattle.sha1.specs.declared.Digest.{Digest}
 use Rattle.sha1.specs.Theorems.{hash-short, last-short, hash-append, last-append}
 
--- ---- `joined`: two copies into zeros
+-- ---- `join`: a copy, and zeros behind it
 
-filled-paste : (s : List ℕ) (n : ℕ) → length s ≡ n → n ≤ 64 → paste (replicate 64 0) 0 s n ≡ filled s
-unfolding filled
-filled-paste s n e h = rw (← e, zero-add (length s), take-length s, drop-replicate (length s) 64 0)
+module _ (block b : List ℕ) (n from m : ℕ) (long : length block ≡ 64) (fits : n + m ≤ 64) (inside : from + m ≤ length b) where
+  joined : List ℕ
+  joined = take n block ++ take m (drop from b)
 
-pub joined-made : (a b d₁ d₂ : List ℕ) (n from m : ℕ) → n ≤ length a → from + m ≤ length b → n + m ≤ 64
-    → d₁ ≡ paste (replicate 64 0) 0 (drop 0 a) n → d₂ ≡ paste d₁ n (drop from b) m → d₂ ≡ filled (take n a ++ take m (drop from b))
-joined-made a b d₁ d₂ n from m ha hb h e₁ e₂ =
-    let la : length (take n a) ≡ n = length-take-le n a ha in
-    let lb : length (take m (drop from b)) ≡ m = length-part m from b hb in
-    let l : length (take n a ++ take m (drop from b)) ≡ n + m = rw (length-append, la, lb) in
-    paste-then (replicate 64 0) d₁ d₂ 0 n (take n a) (take m (drop from b)) n m (n + m) (e₁ ∙ paste-take (replicate 64 0) 0 a n) (e₂ ∙ paste-take d₁ n (drop from b) m) (sym (zero-add n)) refl la (omega arith) (omega arith)
-    ∙ filled-paste (take n a ++ take m (drop from b)) (n + m) l h
+  joined-length : length joined ≡ n + m
+  unfolding joined
+  joined-length = length-append (take n block) (take m (drop from b)) ∙ rw (length-take-le n block (omega arith), length-part m from b inside)
+
+  pub join-made : (d₁ d₂ : List ℕ) (end : ℕ) → end ≡ n + m → d₁ ≡ paste block n (drop from b) m → d₂ ≡ paste {A = ℕ} d₁ end (replicate (64 - end) 0) (64 - end)
+      → d₂ ≡ filled (take n block ++ take m (drop from b))
+  unfolding filled joined
+  join-made d₁ d₂ end sum e₁ e₂ =
+      let enough : m ≤ length (drop from b) = rw (length-drop from b) (omega arith) in
+      let start : take end d₁ ≡ take n block ++ take m (drop from b) = rw (sum, e₁) (take-paste block n (drop from b) m (omega arith) enough) in
+      let zeros : take {A = ℕ} (64 - end) (replicate (64 - end) 0) ≡ replicate (64 - length joined) 0 =
+      rw (joined-length, sum) (take-replicate (64 - (n + m)) (64 - (n + m)) 0 (omega arith)) in
+      let l : length d₁ ≡ 64 = ap length e₁ ∙ length-paste block n (drop from b) m (omega arith) enough ∙ long in
+      let rest : drop (end + (64 - end)) d₁ ≡ [] = drop-of-length-le d₁ {i = end + (64 - end)} (omega arith) in
+      e₂ ∙ (λ i. start i ++ zeros i ++ rest i) ∙ append-nil (take n block ++ take m (drop from b) ++ replicate (64 - length joined) 0)
+
+  pub filled-long : (d : List ℕ) → d ≡ filled (take n block ++ take m (drop from b)) → length d ≡ 64
+  unfolding filled joined
+  filled-long d e =
+      ap length e ∙ length-append joined (replicate (64 - length joined) 0) ∙ omega (arith, joined-length, length-replicate {A = ℕ} (64 - length joined) 0)
 
 -- ---- `fill_up`
 

@@ -1,15 +1,18 @@
 // SHA-1 as FIPS 180-4 defines it, of a whole slice or of a message that comes in pieces. A digest goes in by value and the next one comes back.
 // Whole blocks are hashed straight from the piece; only what is left of one is kept. No public function asks anything of its caller.
 ghost use mathlib.Core.Path.{_≡_};
-ghost use mathlib.Core.List.{[], _++_};
+ghost use mathlib.Core.List.{[], _++_, flatten};
 ghost use Prim.Native.Nat.{_+_, _-_, _*_, _%_, _^_, _≤_, _<_};
 ghost use lib.Bits.{bitXor};
-ghost use lib.ListN.{length, take, drop};
-ghost use Rattle.sha1.specs.Sha1.{rotl, ch, parity, maj, extend, schedule, five, listed, turn, rounds, added, compress, hashBlocks, hashAll, digestOf, sha1};
+ghost use lib.ListN.{length, take, drop, set, replicate};
+ghost use Rattle.sha1.specs.Sha1.{rotl, ch, parity, maj, wordsOf, nextWord, extend, five, listed, turn, rounds, added, compress, hashBlocks, hashAll, digestOf, sha1};
 ghost use Rattle.sha1.specs.Pieces.{filled, digestAfter, fed, finished};
 
 // The bytes of a block.
 const BLOCK: usize = 64;
+
+// The words of the schedule that are held at a time.
+const WINDOW: usize = 16;
 
 // 2^61: the bits of a message are counted modulo 2^64, its bytes modulo this.
 const BIT_COUNTS: u64 = 0x2000_0000_0000_0000;
@@ -68,36 +71,34 @@ fn blend(p: u32, q: u32, r: u32, s: u32) -> u32
     rotl(p ^ q ^ r ^ s, 1)
 }
 
-// Sixteen words of the schedule from `from` on. The loop has a fixed number of turns, so that it is unrolled and the words stay in registers.
-fn more(w: &mut [u32; 80], from: usize)
-    requires { ⌜ (16 ≤ from) × (from ≤ 64) ⌝ }
-    requires { ⌜ length (now w) ≡ 80 ⌝ }
-    ensures { λ _. ⌜ length (now (w .exit)) ≡ 80 ⌝ }
-    ensures { λ _. ⌜ take (from + 16) (now (w .exit)) ≡ extend 16 (take from (now (w .entry))) ⌝ }
+// The schedule's word t, made of those 3, 8, 14 and 16 before it. Word t stands at t modulo 16, so it takes the place of the last of these, for which no later
+// word asks. The contract repeats the window, so that each word stands at its number: of the words before t only the last sixteen count.
+fn renew(w: &mut [u32; 16], t: usize) -> u32
+    requires { ⌜ (length (now w) ≡ 16) × ((16 ≤ t) × (t < 80)) ⌝ }
+    ensures { λ r. ⌜ r ≡ nextWord (take t (flatten (replicate 5 (now (w .entry))))) ⌝ }
+    ensures { λ r. ⌜ now (w .exit) ≡ set (now (w .entry)) (t % 16) r ⌝ }
 {
-    let mut i: usize = 0;
-    while i < 16 {
-        let t = from + i;
-        w[t] = blend(w[t - 3], w[t - 8], w[t - 14], w[t - 16]);
-        i += 1;
-    }
+    let x = blend(
+        w[(t + 13) % WINDOW],
+        w[(t + 8) % WINDOW],
+        w[(t + 2) % WINDOW],
+        w[t % WINDOW],
+    );
+    w[t % WINDOW] = x;
+    x
 }
 
-// The eighty words of the block at `at`.
-fn words(s: &[u8], at: usize) -> [u32; 80]
+// The sixteen words of the block at `at`, with which the schedule begins.
+fn words(s: &[u8], at: usize) -> [u32; 16]
     requires { ⌜ at + 64 ≤ length (now s) ⌝ }
-    ensures { λ r. ⌜ r ≡ schedule (take 64 (drop at (now (s .entry)))) ⌝ }
+    ensures { λ r. ⌜ r ≡ wordsOf 16 (take 64 (drop at (now (s .entry)))) ⌝ }
 {
-    let mut w = [0u32; 80];
+    let mut w = [0u32; 16];
     let mut t: usize = 0;
-    while t < 16 {
+    while t < WINDOW {
         w[t] = wire::be32(s, at + t * 4);
         t += 1;
     }
-    more(&mut w, 16);
-    more(&mut w, 32);
-    more(&mut w, 48);
-    more(&mut w, 64);
     w
 }
 
@@ -118,59 +119,83 @@ fn turn(v: [u32; 5], f: u32, k: u32, w: u32) -> [u32; 5]
     [sum(v[0], f, v[4], k, w), v[0], rotl(v[1], 30), v[2], v[3]]
 }
 
-// The first twenty rounds. Each of the four runs of twenty is a function with a fixed number of turns and one caller: it is unrolled, and
-// compiled into its caller, and the words of the schedule need not go through memory.
-fn rounds_ch(h: [u32; 5], w: &[u32; 80]) -> [u32; 5]
-    ensures { λ r. ⌜ r ≡ listed (rounds (now (w .entry)) 20 0 (five h)) ⌝ }
+// All eighty rounds: sixteen with the words that the window has, and those of `rounds_ch`. Each run of rounds is a function with a fixed number of turns and
+// one caller: it is unrolled, and compiled into its caller, and the window need not go through memory.
+fn all_rounds(h: [u32; 5], w: &mut [u32; 16]) -> [u32; 5]
+    requires { ⌜ length (now w) ≡ 16 ⌝ }
+    ensures { λ r. ⌜ r ≡ listed (rounds (extend 64 (now (w .entry))) 80 0 (five h)) ⌝ }
 {
     let mut v = h;
     let mut t: usize = 0;
-    while t < 20 {
+    while t < WINDOW {
         let next = turn(v, ch(v), K_CH, w[t]);
         v = next;
         t += 1;
     }
-    v
+    rounds_ch(v, w)
 }
 
-// The rounds from 20 on.
-fn rounds_parity(h: [u32; 5], w: &[u32; 80]) -> [u32; 5]
-    ensures { λ r. ⌜ r ≡ listed (rounds (now (w .entry)) 20 20 (five h)) ⌝ }
+// The rounds from 16 on: four, each with a word renewed, and those of `rounds_parity`. There are two to a turn here and below, since the compiler does not
+// unroll twenty turns of this size.
+fn rounds_ch(h: [u32; 5], w: &mut [u32; 16]) -> [u32; 5]
+    requires { ⌜ length (now w) ≡ 16 ⌝ }
+    ensures { λ r. ⌜ r ≡ listed (rounds (extend 64 (now (w .entry))) 64 16 (five h)) ⌝ }
+{
+    let mut v = h;
+    let mut t: usize = 16;
+    while t < 20 {
+        let between = turn(v, ch(v), K_CH, renew(w, t));
+        let next = turn(between, ch(between), K_CH, renew(w, t + 1));
+        v = next;
+        t += 2;
+    }
+    rounds_parity(v, w)
+}
+
+// The rounds from 20 on: twenty, and those of `rounds_maj`.
+fn rounds_parity(h: [u32; 5], w: &mut [u32; 16]) -> [u32; 5]
+    requires { ⌜ length (now w) ≡ 16 ⌝ }
+    ensures { λ r. ⌜ r ≡ listed (rounds (extend 60 (take 20 (flatten (replicate 5 (now (w .entry)))))) 60 20 (five h)) ⌝ }
 {
     let mut v = h;
     let mut t: usize = 20;
     while t < 40 {
-        let next = turn(v, parity(v), K_PARITY, w[t]);
+        let between = turn(v, parity(v), K_PARITY, renew(w, t));
+        let next = turn(between, parity(between), K_PARITY, renew(w, t + 1));
         v = next;
-        t += 1;
+        t += 2;
     }
-    v
+    rounds_maj(v, w)
 }
 
-// The rounds from 40 on.
-fn rounds_maj(h: [u32; 5], w: &[u32; 80]) -> [u32; 5]
-    ensures { λ r. ⌜ r ≡ listed (rounds (now (w .entry)) 20 40 (five h)) ⌝ }
+// The rounds from 40 on: twenty, and those of `rounds_last`.
+fn rounds_maj(h: [u32; 5], w: &mut [u32; 16]) -> [u32; 5]
+    requires { ⌜ length (now w) ≡ 16 ⌝ }
+    ensures { λ r. ⌜ r ≡ listed (rounds (extend 40 (take 40 (flatten (replicate 5 (now (w .entry)))))) 40 40 (five h)) ⌝ }
 {
     let mut v = h;
     let mut t: usize = 40;
     while t < 60 {
-        let next = turn(v, maj(v), K_MAJ, w[t]);
+        let between = turn(v, maj(v), K_MAJ, renew(w, t));
+        let next = turn(between, maj(between), K_MAJ, renew(w, t + 1));
         v = next;
-        t += 1;
+        t += 2;
     }
-    v
+    rounds_last(v, w)
 }
 
 // The rounds from 60 on.
-fn rounds_last(h: [u32; 5], w: &[u32; 80]) -> [u32; 5]
-    ensures { λ r. ⌜ r ≡ listed (rounds (now (w .entry)) 20 60 (five h)) ⌝ }
+fn rounds_last(h: [u32; 5], w: &mut [u32; 16]) -> [u32; 5]
+    requires { ⌜ length (now w) ≡ 16 ⌝ }
+    ensures { λ r. ⌜ r ≡ listed (rounds (extend 20 (take 60 (flatten (replicate 5 (now (w .entry)))))) 20 60 (five h)) ⌝ }
 {
     let mut v = h;
     let mut t: usize = 60;
     while t < 80 {
-        let next = turn(v, parity(v), K_LAST, w[t]);
+        let between = turn(v, parity(v), K_LAST, renew(w, t));
+        let next = turn(between, parity(between), K_LAST, renew(w, t + 1));
         v = next;
-        t += 1;
+        t += 2;
     }
     v
 }
@@ -193,12 +218,9 @@ fn compress(h: [u32; 5], s: &[u8], at: usize) -> [u32; 5]
     requires { ⌜ at + 64 ≤ length (now s) ⌝ }
     ensures { λ r. ⌜ r ≡ compress h (take 64 (drop at (now (s .entry)))) ⌝ }
 {
-    let w = words(s, at);
-    let v1 = rounds_ch(h, &w);
-    let v2 = rounds_parity(v1, &w);
-    let v3 = rounds_maj(v2, &w);
-    let v4 = rounds_last(v3, &w);
-    sums(v4, h)
+    let mut w = words(s, at);
+    let v = all_rounds(h, &mut w);
+    sums(v, h)
 }
 
 // The hash value h after the n blocks from `from` on.
@@ -218,30 +240,29 @@ fn blocks(h: [u32; 5], s: &[u8], from: usize, n: usize) -> [u32; 5]
     v
 }
 
-// A block that begins with n bytes of a and m bytes of b from `from` on, and has zeros behind.
-fn joined(a: &[u8; 64], n: usize, b: &[u8], from: usize, m: usize) -> [u8; 64]
-    requires { ⌜ n ≤ length (now a) ⌝ }
+// Puts m bytes of b from `from` on behind the n bytes with which the block begins, and zeros behind them.
+fn join(block: &mut [u8; 64], n: usize, b: &[u8], from: usize, m: usize)
+    requires { ⌜ (length (now block) ≡ 64) × (n + m ≤ 64) ⌝ }
     requires { ⌜ from + m ≤ length (now b) ⌝ }
-    requires { ⌜ n + m ≤ 64 ⌝ }
-    ensures { λ r. ⌜ r ≡ filled (take n (now (a .entry)) ++ take m (drop from (now (b .entry)))) ⌝ }
+    ensures { λ _. ⌜ now (block .exit) ≡ filled (take n (now (block .entry)) ++ take m (drop from (now (b .entry)))) ⌝ }
 {
-    let mut block = [0u8; 64];
-    slices::copy_bytes(a, 0, n, &mut block, 0);
-    slices::copy_bytes(b, from, m, &mut block, n);
-    block
+    let end = n + m;
+    slices::copy_bytes(b, from, m, block, n);
+    slices::clear(block, end, BLOCK - end);
 }
 
-// The hash value after the block that the bytes in use begin and the piece fills up. Where no byte is in use there is none.
-fn fill_up(h: [u32; 5], block: [u8; 64], used: usize, piece: &[u8], room: usize) -> [u32; 5]
+// The hash value after the block that the bytes in use begin and the piece fills up. Where no byte is in use there is none. The block is used up by that.
+fn fill_up(h: [u32; 5], block: &mut [u8; 64], used: usize, piece: &[u8], room: usize) -> [u32; 5]
     requires { ⌜ (used < 64) × (room ≡ (64 - used) % 64) ⌝ }
-    requires { ⌜ room ≤ length (now piece) ⌝ }
-    ensures { λ r. ⌜ r ≡ hashAll h (take used block ++ take room (now (piece .entry))) ⌝ }
+    requires { ⌜ (length (now block) ≡ 64) × (room ≤ length (now piece)) ⌝ }
+    ensures { λ _. ⌜ length (now (block .exit)) ≡ 64 ⌝ }
+    ensures { λ r. ⌜ r ≡ hashAll h (take used (now (block .entry)) ++ take room (now (piece .entry))) ⌝ }
 {
     if used == 0 {
         return h;
     }
-    let full = joined(&block, used, piece, 0, room);
-    compress(h, &full, 0)
+    join(block, used, piece, 0, room);
+    compress(h, block, 0)
 }
 
 // A digest so far: the hash value of the whole blocks, the bytes after them at the start of `block`, and the number of bytes, modulo 2^64.
@@ -269,27 +290,27 @@ impl Digest {
     {
         let n = piece.len();
         let h = self.h;
-        let block = self.block;
+        let mut block = self.block;
         let len = self.len;
         let total = std::num::wrapping_add_u64(len, n as u64);
         let used = (len % 64) as usize;
         let room = (BLOCK - used) % BLOCK;
         if n < room {
-            let kept = joined(&block, used, piece, 0, n);
+            join(&mut block, used, piece, 0, n);
             return Digest {
                 h,
-                block: kept,
+                block,
                 len: total,
             };
         }
-        let first = fill_up(h, block, used, piece, room);
+        let first = fill_up(h, &mut block, used, piece, room);
         let count = (n - room) / BLOCK;
         let last = blocks(first, piece, room, count);
         let at = room + count * BLOCK;
-        let kept = joined(&block, 0, piece, at, n - at);
+        join(&mut block, 0, piece, at, n - at);
         Digest {
             h: last,
-            block: kept,
+            block,
             len: total,
         }
     }

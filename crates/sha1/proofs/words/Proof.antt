@@ -1,16 +1,15 @@
--- `sha1::words` meets its contract. The loop puts the block's sixteen words, and each call of `more` sixteen others; the parts join by `schedule-parts`. Assumes nothing.
+-- `sha1::words` meets its contract. Each turn of the loop puts a word more of the block. Assumes nothing.
 use borrow.Author.Needs.{needs}
-use native.Mathlib.Omega.{arith}
 use mathlib.Core.Path.{_≡_, refl}
 use Prim.Native.Nat.{_-_, _≤_}
 use lib.ListN.{length, take, drop}
 use Rattle.sha1.specs.Sha1.{wordsOf}
-use Rattle.sha1.proofs.Laws.{words-more, schedule-parts}
+use Rattle.sha1.proofs.Laws.{words-more, words-end}
 use Rattle.sha1.proofs.words.Statement.{statement}
 use Rattle.sha1.proofs.words.Tie as tie
 
 abbrev Inv-loop : tie.InvT-loop
-Inv-loop s at w₀ t₀ w t = (t ≤ 16) × ((length w ≡ 80) × (take t w ≡ wordsOf t (take 64 (drop at s))))
+Inv-loop s at w₀ t₀ w t = (t ≤ 16) × ((length w ≡ 16) × (take t w ≡ wordsOf t (take 64 (drop at s))))
 
 abbrev μ-loop : tie.MeasureT-loop
 μ-loop s at w₀ t₀ w t = 16 - t
@@ -43,25 +42,8 @@ loop-less c = search needs
 loop-again : tie.Need-loop-again Inv-loop μ-loop
 loop-again c = (search needs, (search needs, search (words-more, needs)))
 
-more-requires : tie.Need-more-requires Inv-loop μ-loop
-more-requires c κs = search needs
-
-more-requires-2 : tie.Need-more-requires-2 Inv-loop μ-loop
-more-requires-2 c κs = search needs
-
-more-requires-3 : tie.Need-more-requires-3 Inv-loop μ-loop
-more-requires-3 c κs = search needs
-
-more-requires-4 : tie.Need-more-requires-4 Inv-loop μ-loop
-more-requires-4 c κs = search needs
-
 returns : tie.Need-returns Inv-loop μ-loop
-returns c =
-    let l = c .before .before .before .before .before .before .before .before .before in
-    let v = l .loop in
-    let t : v .t ≡ 16 = omega arith in
-    let first = rw t at (v .inv .1 .1) in
-    search (schedule-parts, first, needs)
+returns c = search (words-end, needs)
 
 pub words-spec : {M : Type 1} → statement M
 words-spec =
@@ -78,8 +60,4 @@ words-spec =
     add-t
     loop-less
     loop-again
-    more-requires
-    more-requires-2
-    more-requires-3
-    more-requires-4
     returns)

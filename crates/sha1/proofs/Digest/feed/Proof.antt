@@ -17,17 +17,17 @@ wrapping-add-u64-requires c κs = search needs
 sub-room : tie.Need-sub-room
 sub-room c = search needs
 
-joined-requires : tie.Need-joined-requires
-joined-requires c κs =
+join-requires : tie.Need-join-requires
+join-requires c κs =
     let l = long (c .before .before .before .before .before .before) in
-    (omega arith, (search needs, omega arith))
+    ((l, omega arith), search needs)
 
 returns : tie.Need-returns
 returns c =
     let start = c .before .before .before .before .before .before .before in
     let d = start .args .self in
     let total = c .before .before .before .wrapping-add-u64 in
-    feed-short (d .h) (d .block) (start .args .piece .now) (d .len) (total .result) _ (long start) (total .ensures) refl (c .joined .result) (c .before .before .if1 .taken) (c .joined .ensures)
+    feed-short (d .h) (d .block) (start .args .piece .now) (d .len) (total .result) _ (long start) (total .ensures) refl (c .join .last .0) (c .before .before .if1 .taken) (c .join .ensures)
 
 fill-up-requires : tie.Need-fill-up-requires
 fill-up-requires c κs = search needs
@@ -41,18 +41,18 @@ mul-at c = search needs
 add-at : tie.Need-add-at
 add-at c = search needs
 
-sub-joined : tie.Need-sub-joined
-sub-joined c = search needs
+sub-join : tie.Need-sub-join
+sub-join c = search needs
 
-joined-requires-2 : tie.Need-joined-requires-2
-joined-requires-2 c κs = search needs
+join-requires-2 : tie.Need-join-requires-2
+join-requires-2 c κs = search needs
 
 returns-2 : tie.Need-returns-2
 returns-2 c =
-    let start = c .before .before .before .before .before .before .before .before .before in
+    let start = c .before .before .before .before .before .before .before .before .before .before in
     let d = start .args .self in
-    let total = c .before .before .before .before .before .wrapping-add-u64 in
-    feed-long (d .h) (d .block) (start .args .piece .now) (d .len) (total .result) _ (long start) (total .ensures) refl _ _ (c .before .before .before .before .if1 .left) refl refl (c .joined2 .result) (c .before .before .before .fill-up .result) (c .before .before .blocks2 .result) (c .before .before .before .fill-up .ensures) (c .before .before .blocks2 .ensures) (c .joined2 .ensures)
+    let total = c .before .before .before .before .before .before .wrapping-add-u64 in
+    feed-long (d .h) (d .block) (start .args .piece .now) (d .len) (total .result) _ (long start) (total .ensures) refl _ _ (c .before .before .before .before .before .if1 .left) refl refl (c .join2 .last .0) (c .before .before .before .fill-up .result) (c .before .before .blocks2 .result) (c .before .before .before .fill-up .ensures .1) (c .before .before .blocks2 .ensures) (c .join2 .ensures)
 
 pub feed-spec : {M : Type 1} → statement M
 feed-spec =
@@ -60,12 +60,12 @@ feed-spec =
     (tie.spec
     wrapping-add-u64-requires
     sub-room
-    joined-requires
+    join-requires
     returns
     fill-up-requires
     blocks-requires
     mul-at
     add-at
-    sub-joined
-    joined-requires-2
+    sub-join
+    join-requires-2
     returns-2)
