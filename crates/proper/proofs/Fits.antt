@@ -16,6 +16,7 @@ use Rattle.format.specs.Format.{depthLimit}
 use Rattle.node.specs.Head.{countHalf, minusOne}
 use Rattle.node.specs.Store.{nodesIn, countAt, subtreesAt, parentAt, nameInside, nameAt}
 use Rattle.siblings.specs.Siblings.{isChild, siblingsDiffer}
+use Rattle.walk_order.specs.Depth.{all-end, all-more, all-not}
 use Rattle.proper.specs.Proper.{parentFits, countFits, holdsNone, nameFits, climbs, nodeFits, childCount, kidsFit, allIn, nodesFit, allKidsFit, isProper}
 
 -- ---- one node
@@ -137,21 +138,6 @@ module _ (ns nm : List ℕ) (i said count : ℕ) (es : said ≡ subtreesAt ns i)
   kids-counted h t n q e = q ∙ ap (λ (k : ℕ). siblingsDiffer nm ns i 1 k) e ∙ sym (rw (← es, ← ec, eq-eqb said count h))
 
 -- ---- all of them
-
-module _ (p : ℕ → Bool) (n i : ℕ) (r : Bool) (inv : allIn p (n - i) i ≡ r) where
-  pub all-end : n ≤ i → true ≡ r
-  unfolding allIn
-  all-end h = let z : n - i ≡ 0 = omega arith in rw z at inv
-
-  cut : (t : Bool) → i < n → t ≡ p i → pick t (allIn p (n - (i + 1)) (i + 1)) false ≡ r
-  unfolding allIn
-  cut t h e = let z : n - i ≡ suc (n - (i + 1)) = omega arith in sym (rw (z, ← e)) ∙ inv
-
-  pub all-more : i < n → (t : Bool) → t ≡ p i → t ≡ true → allIn p (n - (i + 1)) (i + 1) ≡ r
-  all-more h t e k = sym (ap (λ (b : Bool). pick b (allIn p (n - (i + 1)) (i + 1)) false) k) ∙ cut t h e
-
-  pub all-not : i < n → (t : Bool) → t ≡ p i → t ≡ false → false ≡ r
-  all-not h t e k = sym (ap (λ (b : Bool). pick b (allIn p (n - (i + 1)) (i + 1)) false) k) ∙ cut t h e
 
 pub all-start : (p : ℕ → Bool) (n m : ℕ) → n ≡ m → allIn p (n - 0) 0 ≡ allIn p m 0
 all-start p n m e = rw (sub-zero n, e)
