@@ -169,6 +169,9 @@ comes-before-settled κs a z z′ w w′ = settled (λ r. (r, w))
 pub rises-settled : Settles siblings.rises.Kinds.ps siblings.rises.Kinds.r siblings.rises.Reads.Learnt
 rises-settled κs a z z′ w w′ = settled (λ r. (r, w))
 
+pub same-name-settled : Settles siblings.same_name.Kinds.ps siblings.same_name.Kinds.r siblings.same_name.Reads.Learnt
+same-name-settled κs a z z′ w w′ = settled (λ r. (r, w))
+
 pub siblings-differ-settled : Settles siblings.siblings_differ.Kinds.ps siblings.siblings_differ.Kinds.r siblings.siblings_differ.Reads.Learnt
 siblings-differ-settled κs a z z′ w w′ = settled (λ r. (r, w))
 

@@ -14,6 +14,9 @@ use Rattle.claims_settled.specs.Law.{Settles, settled}
 pub in-walk-order-settled : Settles walk_order.in_walk_order.Kinds.ps walk_order.in_walk_order.Kinds.r walk_order.in_walk_order.Reads.Learnt
 in-walk-order-settled κs a z z′ w w′ = settled (λ r. (r, w))
 
+pub walks-within-settled : Settles walk_order.walks_within.Kinds.ps walk_order.walks_within.Kinds.r walk_order.walks_within.Reads.Learnt
+walks-within-settled κs a z z′ w w′ = settled (λ r. (r, w))
+
 pub next-child-settled : Settles walk_order.next_child.Kinds.ps walk_order.next_child.Kinds.r walk_order.next_child.Reads.Learnt
 next-child-settled κs a z z′ w w′ = settled (λ r. (r, w))
 

@@ -11,6 +11,7 @@ use borrow.Author.Tests.{eq-eqb, ne-eqb, le-leb, lt-leb}
 use Rattle.laws.specs.Pick.{pick}
 use Rattle.laws.specs.Tests.{lt-or-ge, Same, same, differs, same?}
 use Rattle.node.specs.Store.{nodesIn, parentAt}
+use Rattle.walk_order.specs.Depth.{level-some}
 use Rattle.tree_write.specs.Order.{before, false-true, before-not}
 use Rattle.tree_write.specs.Tree.{headBytes, each, nodeBytes}
 use Rattle.proper.specs.Proper.{climbs}
@@ -54,10 +55,6 @@ level-one : {ns : List ℕ} {k j : ℕ} → Level ns k j → k ≡ 1 → j ≡ 0
 level-one root e = refl
 level-one (below a p root) e = absurd (omega arith)
 level-one (below a p (below b q l)) e = absurd (omega arith)
-
-level-some : {ns : List ℕ} {k j : ℕ} → Level ns k j → 1 ≤ k
-level-some root = omega arith
-level-some (below a p l) = omega arith
 
 pub level-found : (ns : List ℕ) (levels j : ℕ) → climbs ns levels j ≡ true → (k : ℕ) × Level ns k j
 unfolding climbs

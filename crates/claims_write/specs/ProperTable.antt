@@ -16,6 +16,7 @@ use Rattle.node.specs.Head.{minusOne}
 use Rattle.node.specs.Store.{nodesIn, nameStartAt, nameEndAt, countAt, subtreesAt, parentAt, isPart, nameInside, nameAt}
 use Rattle.siblings.specs.Siblings.{isChild}
 use Rattle.siblings.specs.InOrder.{Distinct as DistinctAt, differ-distinct, distinct-differ}
+use Rattle.walk_order.specs.Depth.{level-climbs}
 use Rattle.tree_write.specs.Order.{false-true}
 use Rattle.proper.specs.Proper.{isNever, holdsNone, climbs, childCount, isProper}
 use Rattle.proper.specs.Table.{Proper, proper-exactly}
@@ -82,20 +83,6 @@ lies-inside ns nm i = (λ e. to (leb (nameStartAt ns i) (nameEndAt ns i)) refl e
         → (nameStartAt ns i ≤ nameEndAt ns i) × (nameEndAt ns i ≤ length nm)
     to true e q = (leb-true (nameStartAt ns i) (nameEndAt ns i) e, leb-true (nameEndAt ns i) (length nm) q)
     to false e q = absurd (false-true q)
-
--- ---- levels
-
-climbs-to : {ns : List ℕ} {k i : ℕ} → Level ns k i → (limit : ℕ) → k ≤ limit → climbs ns limit i ≡ true
-unfolding climbs
-climbs-to l zero h = absurd (none l h)
-  where
-    none : {ns : List ℕ} {k i : ℕ} → Level ns k i → k ≤ 0 → ⊥
-    none root h = omega arith
-    none (below a p l) h = omega arith
-climbs-to root (suc limit) h = refl
-climbs-to {ns} (below {j = j} a p l) (suc limit) h =
-    let d : j ≡ 0 → ⊥ = λ e. omega arith in
-    rw (ne-eqb j 0 d) (subst (λ (x : ℕ). climbs ns limit x ≡ true) (sym p) (climbs-to l limit (omega arith)))
 
 -- ---- children
 
@@ -195,7 +182,7 @@ module _ (limit : ℕ) (ns nm : List ℕ) where
     counts = w .counts;
     inside = λ i h. lies-inside ns nm i .1 (w .inside i h);
     plain = λ i h. holds-none (nameAt nm ns i) (w .plain i h);
-    depth = λ i h. let (k, l, m) = w .depth i h in climbs-to l limit m;
+    depth = λ i h. let (k, l, m) = w .depth i h in level-climbs l limit m;
     subtrees = λ i h. w .subtrees i h ∙ sym (counted ns i (nodesIn ns - 1) 1);
     distinct = λ i h. sym (distinct-differ nm ns i 1 (nodesIn ns) (from-distinct ns nm i (w .distinct i h)));
   }

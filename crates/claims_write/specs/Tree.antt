@@ -20,6 +20,7 @@ use Rattle.node.specs.Head.{minusOne, countHalf}
 use Rattle.node.specs.Store.{nodesIn, countAt, subtreesAt, parentAt, idAt, nameAt}
 use Rattle.siblings.specs.Siblings.{isChild}
 use Rattle.siblings.specs.InOrder.{Distinct as DistinctAt, differ-distinct}
+pub use Rattle.walk_order.specs.Depth.{Level, root, below, level-within}
 use Rattle.tree_write.specs.Order.{before, false-true, before-not, before-names}
 use Rattle.tree_write.specs.Tree.{after, countBytes, frontBytes, numberBytes, idBytes, headBytes, kids, each, nodeBytes}
 use Rattle.proper.specs.Proper.{isNever, holdsNone, climbs, childCount}
@@ -223,24 +224,6 @@ module _ (ns nm : List ℕ) (p : ℕ) where
       by : (x : ℕ) → 1 ≤ x → x < 1 + (nodesIn ns - 1) → {t : Bool} → Same (parentAt ns x) p t → hits (kids ns nm p (nodesIn ns) 0) x ≡ pick t 1 0
       by x a b (same e) = one-hit (λ y z. before ns nm y z ≡ true) (before-not ns nm) kids-rise x (kids-all x (omega arith) (omega arith) e)
       by x a b (differs d) = no-hits (kids ns nm p (nodesIn ns) 0) x (λ m. d (kids-are x m .2))
-
--- ---- how deep a node is
-
--- the root has depth 1
-pub data Level (ns : List ℕ) : ℕ → ℕ → Type 0 where
-  root : Level ns 1 0
-  below : {k i j : ℕ} → 0 < j → parentAt ns j ≡ i → Level ns k i → Level ns (suc k) j
-
-pub level-within : {ns : List ℕ} {k i : ℕ} → Level ns k i → (levels : ℕ) → climbs ns levels i ≡ true → k ≤ levels
-unfolding climbs
-level-within root zero e = absurd (false-true e)
-level-within root (suc levels) e = omega arith
-level-within (below h p l) zero e = absurd (false-true e)
-level-within {ns} (below {k = k} {i = i} {j = j} h p l) (suc levels) e =
-    let d : j ≡ 0 → ⊥ = λ q. omega arith in
-    let f : climbs ns levels (parentAt ns j) ≡ true = rw (ne-eqb j 0 d) at e in
-    let g = level-within l levels (subst (λ (x : ℕ). climbs ns levels x ≡ true) p f) in
-    omega arith
 
 -- ---- THE TREE THAT A TABLE MEANS
 

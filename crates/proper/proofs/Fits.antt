@@ -1,6 +1,6 @@
 -- Laws of what a proper table is, turned the way that the needs ask. Assumes nothing.
 use mathlib.Core.Bool.{Bool, true, false}
-use mathlib.Core.Path.{_≡_, sym, ap, _∙_}
+use mathlib.Core.Path.{_≡_, refl, sym, ap, _∙_}
 use mathlib.Core.List.{List}
 use Prim.Native.Nat.{ℕ, suc, _+_, _-_, _≤_, _<_}
 use native.Mathlib.Nat.{sub-zero}
@@ -16,7 +16,11 @@ use Rattle.format.specs.Format.{depthLimit}
 use Rattle.node.specs.Head.{countHalf, minusOne}
 use Rattle.node.specs.Store.{nodesIn, countAt, subtreesAt, parentAt, nameInside, nameAt}
 use Rattle.siblings.specs.Siblings.{isChild, siblingsDiffer}
+use Rattle.walk_order.specs.Walk.{walks}
+use Rattle.walk_order.specs.Child.{false-true}
+use Rattle.walk_order.specs.Depth.{all-end, all-more, all-not, each-all, walksWithin, within-climbs}
 use Rattle.proper.specs.Proper.{parentFits, countFits, holdsNone, nameFits, climbs, nodeFits, childCount, kidsFit, allIn, nodesFit, allKidsFit, isProper}
+use Rattle.proper.specs.Table.{Proper, proper-exactly}
 
 -- ---- one node
 
@@ -88,6 +92,10 @@ module _ (ns nm : List ℕ) (i : ℕ) (a : Bool) (ea : a ≡ parentFits ns i) wh
       unfolding nodeFits
       fits-name l = sym (rw (sym ea ∙ h, sym eb ∙ k, sym ec ∙ l))
 
+      pub fits-shallow : c ≡ true → (shallow : Bool) → shallow ≡ walksWithin depthLimit ns → shallow ≡ true → i < nodesIn ns → true ≡ nodeFits depthLimit ns nm i
+      unfolding nodeFits
+      fits-shallow l shallow e w inside = sym (rw (sym ea ∙ h, sym eb ∙ k, sym ec ∙ l) (within-climbs depthLimit ns (sym e ∙ w) i inside))
+
       pub fits-depth : c ≡ true → (t : Bool) → t ≡ climbs ns depthLimit i → t ≡ nodeFits depthLimit ns nm i
       unfolding nodeFits
       fits-depth l t q = q ∙ sym (rw (sym ea ∙ h, sym eb ∙ k, sym ec ∙ l))
@@ -138,28 +146,36 @@ module _ (ns nm : List ℕ) (i said count : ℕ) (es : said ≡ subtreesAt ns i)
 
 -- ---- all of them
 
-module _ (p : ℕ → Bool) (n i : ℕ) (r : Bool) (inv : allIn p (n - i) i ≡ r) where
-  pub all-end : n ≤ i → true ≡ r
-  unfolding allIn
-  all-end h = let z : n - i ≡ 0 = omega arith in rw z at inv
-
-  cut : (t : Bool) → i < n → t ≡ p i → pick t (allIn p (n - (i + 1)) (i + 1)) false ≡ r
-  unfolding allIn
-  cut t h e = let z : n - i ≡ suc (n - (i + 1)) = omega arith in sym (rw (z, ← e)) ∙ inv
-
-  pub all-more : i < n → (t : Bool) → t ≡ p i → t ≡ true → allIn p (n - (i + 1)) (i + 1) ≡ r
-  all-more h t e k = sym (ap (λ (b : Bool). pick b (allIn p (n - (i + 1)) (i + 1)) false) k) ∙ cut t h e
-
-  pub all-not : i < n → (t : Bool) → t ≡ p i → t ≡ false → false ≡ r
-  all-not h t e k = sym (ap (λ (b : Bool). pick b (allIn p (n - (i + 1)) (i + 1)) false) k) ∙ cut t h e
-
 pub all-start : (p : ℕ → Bool) (n m : ℕ) → n ≡ m → allIn p (n - 0) 0 ≡ allIn p m 0
 all-start p n m e = rw (sub-zero n, e)
+
+module _ (ns : List ℕ) (shallow : Bool) where
+  pub deep-not : shallow ≡ true → false ≡ pick shallow false (walks depthLimit ns)
+  deep-not h = sym (rw h)
+
+  pub deep-walk : shallow ≡ false → (t : Bool) → t ≡ walks depthLimit ns → t ≡ pick shallow false (walks depthLimit ns)
+  deep-walk h t e = e ∙ sym (rw h)
 
 module _ (ns nm : List ℕ) where
   pub proper-empty : length ns < 72 → false ≡ isProper depthLimit ns nm
   unfolding isProper
   proper-empty h = let l : nodesIn ns ≤ 0 = omega arith in sym (rw (le-ltb 0 (nodesIn ns) l))
+
+  -- a proper table in walk order has no node that stands too deep
+  proper-within : isProper depthLimit ns nm ≡ true → walks depthLimit ns ≡ true → walksWithin depthLimit ns ≡ true
+  unfolding walksWithin
+  proper-within p w = rw w (each-all (climbs ns depthLimit) (nodesIn ns) 0 (λ i a b. proper-exactly depthLimit ns nm .0 p .depth i (omega arith)))
+
+  pub proper-deep : (shallow : Bool) → shallow ≡ walksWithin depthLimit ns → (t : Bool) → t ≡ pick shallow false (walks depthLimit ns) → t ≡ true → false ≡ isProper depthLimit ns nm
+  proper-deep true e t et h = absurd (false-true (sym et ∙ h))
+  proper-deep false e t et h = by (isProper depthLimit ns nm) refl
+    where
+      by : (p : Bool) → isProper depthLimit ns nm ≡ p → false ≡ p
+      by true q = absurd (false-true (e ∙ proper-within q (sym et ∙ h)))
+      by false q = refl
+
+  pub shallow-some : 72 ≤ length ns → 0 < nodesIn ns
+  shallow-some h = omega arith
 
   module _ (h : 72 ≤ length ns) (a : Bool) (ea : a ≡ nodesFit depthLimit ns nm) where
     some : 0 < nodesIn ns
@@ -173,4 +189,4 @@ module _ (ns nm : List ℕ) where
     unfolding isProper
     proper-kids k t q = q ∙ sym (rw (lt-ltb 0 (nodesIn ns) some, sym ea ∙ k))
 
-pub ruleset fits = (parent-root, parent-other, count-none, count-some, nul-found, nul-never, name-in, name-out, climb-none, climb-root, climb-up, fits-parent, fits-count, fits-name, fits-depth, counting-start, counting-end, counting-one, counting-other, kids-miscounted, kids-counted, all-end, all-more, all-not, all-start, proper-empty, proper-nodes, proper-kids)
+pub ruleset fits = (parent-root, parent-other, count-none, count-some, nul-found, nul-never, name-in, name-out, climb-none, climb-root, climb-up, fits-parent, fits-count, fits-name, fits-shallow, fits-depth, counting-start, counting-end, counting-one, counting-other, kids-miscounted, kids-counted, all-end, all-more, all-not, all-start, deep-not, deep-walk, proper-empty, proper-deep, proper-nodes, proper-kids, shallow-some)

@@ -12,6 +12,7 @@ use Rattle.slices.specs.declared.Ends.the-variants.{With, Never}
 use Rattle.node.specs.Head.{countHalf, minusOne}
 use Rattle.node.specs.Store.{nodesIn, countAt, subtreesAt, parentAt, nameInside, nameAt}
 use Rattle.siblings.specs.Siblings.{isChild, siblingsDiffer}
+unfoldable pub use Rattle.walk_order.specs.Depth.{climbs, allIn}
 
 -- ---- what node i alone says
 
@@ -34,11 +35,6 @@ holdsNone name = isNever (nulAt name 0 (length name))
 unfoldable pub nameFits : List ℕ → List ℕ → ℕ → Bool
 nameFits ns nm i = pick (nameInside nm ns i) (holdsNone (nameAt nm ns i)) false
 
--- from node i the root is reached by at most so many nodes, i and the root counted
-unfoldable pub climbs : List ℕ → ℕ → ℕ → Bool
-climbs ns zero i = false
-climbs ns (suc levels) i = pick (eqb i 0) true (climbs ns levels (parentAt ns i))
-
 unfoldable pub nodeFits : ℕ → List ℕ → List ℕ → ℕ → Bool
 nodeFits limit ns nm i = pick (parentFits ns i) (pick (countFits ns i) (pick (nameFits ns nm i) (climbs ns limit i) false) false) false
 
@@ -54,11 +50,6 @@ unfoldable pub kidsFit : List ℕ → List ℕ → ℕ → Bool
 kidsFit ns nm i = pick (eqb (subtreesAt ns i) (childCount ns i (nodesIn ns - 1) 1)) (siblingsDiffer nm ns i 1 (nodesIn ns)) false
 
 -- ---- the table
-
--- k numbers from i on all pass the test
-unfoldable pub allIn : (ℕ → Bool) → ℕ → ℕ → Bool
-allIn p zero i = true
-allIn p (suc k) i = pick (p i) (allIn p k (i + 1)) false
 
 abbrev pub nodesFit : ℕ → List ℕ → List ℕ → Bool
 nodesFit limit ns nm = allIn (nodeFits limit ns nm) (nodesIn ns) 0

@@ -13,8 +13,9 @@ use Rattle.laws.specs.Tests.{lt-or-ge}
 use Rattle.node.specs.Head.{countHalf, minusOne}
 use Rattle.node.specs.Store.{nodesIn, countAt, subtreesAt, parentAt, nameInside, nameAt}
 use Rattle.siblings.specs.Siblings.{siblingsDiffer}
-use Rattle.walk_order.specs.Child.{false-true}
-use Rattle.proper.specs.Proper.{parentFits, countFits, holdsNone, nameFits, climbs, nodeFits, childCount, kidsFit, allIn, nodesFit, allKidsFit, isProper}
+use Rattle.walk_order.specs.Child.{both}
+use Rattle.walk_order.specs.Depth.{all-each, each-all}
+use Rattle.proper.specs.Proper.{parentFits, countFits, holdsNone, nameFits, climbs, nodeFits, childCount, kidsFit, nodesFit, allKidsFit, isProper}
 
 pub record Proper (limit : ℕ) (ns nm : List ℕ) : Type 0 where
   pub some : 0 < nodesIn ns
@@ -26,27 +27,6 @@ pub record Proper (limit : ℕ) (ns nm : List ℕ) : Type 0 where
   pub depth : (i : ℕ) → i < nodesIn ns → climbs ns limit i ≡ true
   pub subtrees : (i : ℕ) → i < nodesIn ns → subtreesAt ns i ≡ childCount ns i (nodesIn ns - 1) 1
   pub distinct : (i : ℕ) → i < nodesIn ns → siblingsDiffer nm ns i 1 (nodesIn ns) ≡ true
-
--- ---- tests one after the other
-
-both : (a b : Bool) → pick a b false ≡ true → (a ≡ true) × (b ≡ true)
-both true b h = (refl, h)
-both false b h = absurd (false-true h)
-
-all-each : (p : ℕ → Bool) (n i : ℕ) → allIn p n i ≡ true → (k : ℕ) → i ≤ k → k < i + n → p k ≡ true
-unfolding allIn
-all-each p zero i h k l m = absurd (omega arith)
-all-each p (suc n) i h k l m =
-    let t = both (p i) (allIn p n (i + 1)) h in
-    ⊎-elim (λ q. all-each p n (i + 1) (t .1) k (omega arith) (omega arith)) (λ q. subst (λ (x : ℕ). p x ≡ true) (same q) (t .0)) (lt-or-ge i k)
-  where
-    same : k ≤ i → i ≡ k
-    same q = omega arith
-
-each-all : (p : ℕ → Bool) (n i : ℕ) → ((k : ℕ) → i ≤ k → k < i + n → p k ≡ true) → allIn p n i ≡ true
-unfolding allIn
-each-all p zero i h = refl
-each-all p (suc n) i h = rw (h i (omega arith) (omega arith)) (each-all p n (i + 1) (λ k l m. h k (omega arith) (omega arith)))
 
 -- ---- one node
 

@@ -60,7 +60,7 @@ module _ (names ns : List ℕ) (parent first used : ℕ) (d : Distinct names ns 
 
 -- ---- the search finds what is there
 
-any-true : (p : ℕ → Bool) (f i k : ℕ) → i ≤ k → k < i + f → p k ≡ true → anyIn p f i ≡ true
+pub any-true : (p : ℕ → Bool) (f i k : ℕ) → i ≤ k → k < i + f → p k ≡ true → anyIn p f i ≡ true
 unfolding anyIn
 any-true p zero i k h l e = absurd (omega arith)
 any-true p (suc f) i k h l e = ⊎-elim (λ m. by (p i) (any-true p f (i + 1) k (omega arith) (omega arith) e)) (λ m. let z : k ≡ i = omega arith in rw (← z, e)) (lt-or-ge i k)
@@ -73,7 +73,7 @@ twin-is : (names ns : List ℕ) (parent i j : ℕ) → parentAt ns j ≡ parent 
 unfolding twin
 twin-is names ns parent i j q e = rw (eq-eqb (parentAt ns j) parent q, e) (same-refl (nameAt names ns j))
 
-repeats-is : (names ns : List ℕ) (parent first i j : ℕ) → parentAt ns i ≡ parent → first ≤ j → j < i → twin names ns parent i j ≡ true → repeats names ns parent first i ≡ true
+pub repeats-is : (names ns : List ℕ) (parent first i j : ℕ) → parentAt ns i ≡ parent → first ≤ j → j < i → twin names ns parent i j ≡ true → repeats names ns parent first i ≡ true
 unfolding repeats
 repeats-is names ns parent first i j p h k t = rw (eq-eqb (parentAt ns i) parent p) (any-true (twin names ns parent i) (i - first) first j h (omega arith) t)
 
@@ -100,10 +100,10 @@ differ-distinct names ns parent first used d i j h k l p q e =
 abbrev pub GitBefore : List ℕ → List ℕ → Type 0
 GitBefore a b = (length a < length b) ⊎ ((length a ≡ length b) × Before a b)
 
-git-irreflexive : (a : List ℕ) → GitBefore a a → ⊥
+pub git-irreflexive : (a : List ℕ) → GitBefore a a → ⊥
 git-irreflexive a h = ⊎-elim (λ l. omega arith) (λ l. irreflexive (l .1)) h
 
-git-transitive : (a b c : List ℕ) → GitBefore a b → GitBefore b c → GitBefore a c
+pub git-transitive : (a b c : List ℕ) → GitBefore a b → GitBefore b c → GitBefore a c
 git-transitive a b c h k =
     ⊎-elim
     (λ l. inl (⊎-elim (λ m. omega arith) (λ m. omega (arith, m .0)) k))
@@ -216,7 +216,7 @@ module _ (names ms : List ℕ) (me : ℕ) (so : Rising) (child : ℕ) where
       by true = refl
       by false = refl
 
-  risen-bytes : risen names ms me so child .bytes ≡ true → (so .bytes ≡ true) × ((so .last ≡ me) ⊎ Before lastName newName)
+  pub risen-bytes : risen names ms me so child .bytes ≡ true → (so .bytes ≡ true) × ((so .last ≡ me) ⊎ Before lastName newName)
   unfolding risen
   risen-bytes = by (eqb (so .last) me) refl
     where
@@ -226,7 +226,7 @@ module _ (names ms : List ℕ) (me : ℕ) (so : Rising) (child : ℕ) where
       by true e q = (q, inl (eqb-true (so .last) me e))
       by false e q = let both = pick-true (so .bytes) (before lastName newName) q in (both .0, inr (before-true lastName newName (both .1)))
 
-  risen-git : risen names ms me so child .git ≡ true → (so .git ≡ true) × ((so .last ≡ me) ⊎ GitBefore lastName newName)
+  pub risen-git : risen names ms me so child .git ≡ true → (so .git ≡ true) × ((so .last ≡ me) ⊎ GitBefore lastName newName)
   unfolding risen
   risen-git = by (eqb (so .last) me) refl
     where

@@ -82,7 +82,7 @@ pub fn rises(file: &[u8], nodes: &[u8], me: usize, so: Rising, child: usize) -> 
 }
 
 // Whether nodes i and j have the same name.
-fn same_name(file: &[u8], nodes: &[u8], i: usize, j: usize) -> bool
+pub fn same_name(file: &[u8], nodes: &[u8], i: usize, j: usize) -> bool
     ensures { λ r. ⌜ r ≡ sameBytes (nameAt (now (file .entry)) (now (nodes .entry)) i) (nameAt (now (file .entry)) (now (nodes .entry)) j) ⌝ }
 {
     let a = node::name(file, nodes, i);

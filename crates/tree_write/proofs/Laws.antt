@@ -6,6 +6,7 @@ use Prim.Native.Nat.{ℕ, suc, _+_, _-_, _/_, _≤_, _<_}
 use native.Mathlib.Nat.{pos-of-ne-zero}
 use native.Mathlib.Omega.{arith}
 use lib.ListN.{length, set, length-append}
+use Rattle.laws.specs.Pick.{pick}
 use lib.Seq.{paste}
 use borrow.Author.Tests.{lt-ltb, le-ltb, le-leb, lt-leb, eq-eqb, ne-eqb}
 use Rattle.laws.specs.Put.{put-then, put, put-none, put-put, length-put, paste-put, set-put}
@@ -15,10 +16,12 @@ use Rattle.wire.specs.Written.{digitsOf}
 use Rattle.format.specs.Format.{depthLimit, idSize}
 use Rattle.node.specs.Head.{minusOne}
 use Rattle.node.specs.Store.{nodesIn, countAt, subtreesAt, parentAt, idAt, nameAt}
+use Rattle.siblings.specs.Siblings.{isChild}
 use Rattle.siblings.specs.Rising.{isBelow}
 use Rattle.siblings.specs.Rising as rising
 use Rattle.tree_write.specs.Order.{byIndex, before, false-true}
 use Rattle.tree_write.specs.Tree.{countBytes, frontBytes, numberBytes, idBytes, headBytes, after, ahead, better, bestRun, nextKid, kids, each, nodeBytes, putFit}
+use Rattle.tree_write.specs.Children.{passing, tableKids, sumOver, each-length, kids-sum}
 
 -- ---- bytes put side by side
 
@@ -385,11 +388,11 @@ module _ (ns nm : List ℕ) (depth me : ℕ) where
     node-rest at m m′ pos h q e = omega (arith, node-long)
 
     module _ (at left last pos pos₀ : ℕ) (none : kids ns nm me left last ≡ []) (e₀ : pos₀ ≡ at + length (headBytes idSize ns nm me)) where
-      pub node-at : pos + length (each (nodeBytes idSize ns nm (depth - 1)) (kids ns nm me left last)) ≡ pos₀ + length (each (nodeBytes idSize ns nm (depth - 1)) (kids ns nm me (length ns / 72) 0)) → pos ≡ at + length (nodeBytes idSize ns nm depth me)
+      node-at : pos + length (each (nodeBytes idSize ns nm (depth - 1)) (kids ns nm me left last)) ≡ pos₀ + length (each (nodeBytes idSize ns nm (depth - 1)) (kids ns nm me (length ns / 72) 0)) → pos ≡ at + length (nodeBytes idSize ns nm depth me)
       unfolding each
       node-at h = let z : pos + 0 ≡ pos₀ + length (each (nodeBytes idSize ns nm (depth - 1)) (kids ns nm me (length ns / 72) 0)) = rw none at h in omega (arith, node-long)
 
-      pub node-put : (d d₀ d₁ : List ℕ) → at ≤ length d → d₀ ≡ put d at (headBytes idSize ns nm me)
+      node-put : (d d₀ d₁ : List ℕ) → at ≤ length d → d₀ ≡ put d at (headBytes idSize ns nm me)
           → put d₁ pos (each (nodeBytes idSize ns nm (depth - 1)) (kids ns nm me left last)) ≡ put d₀ pos₀ (each (nodeBytes idSize ns nm (depth - 1)) (kids ns nm me (length ns / 72) 0)) → d₁ ≡ put d at (nodeBytes idSize ns nm depth me)
       unfolding each
       node-put d d₀ d₁ room e h =
@@ -398,6 +401,7 @@ module _ (ns nm : List ℕ) (depth me : ℕ) where
           ∙ (rw (e, e₀, node-cut) (put-put d (headBytes idSize ns nm me) (each (nodeBytes idSize ns nm (depth - 1)) (kids ns nm me (length ns / 72) 0)) at room))
 
 -- ---- the loop over the children, each written at most b levels deep
+
 module _ (b : ℕ) (ns nm : List ℕ) (p left last kid pos : ℕ) (is : kids ns nm p left last ≡ kid ∷ kids ns nm p (left - 1) kid) where
   each-cut : each (nodeBytes idSize ns nm b) (kids ns nm p left last) ≡ nodeBytes idSize ns nm b kid ++ each (nodeBytes idSize ns nm b) (kids ns nm p (left - 1) kid)
   unfolding each
@@ -406,46 +410,107 @@ module _ (b : ℕ) (ns nm : List ℕ) (p left last kid pos : ℕ) (is : kids ns 
   each-long : length (each (nodeBytes idSize ns nm b) (kids ns nm p left last)) ≡ length (nodeBytes idSize ns nm b kid) + length (each (nodeBytes idSize ns nm b) (kids ns nm p (left - 1) kid))
   each-long = ap length each-cut ∙ length-append (nodeBytes idSize ns nm b kid) (each (nodeBytes idSize ns nm b) (kids ns nm p (left - 1) kid))
 
-  pub each-room : (m : ℕ) → pos + length (each (nodeBytes idSize ns nm b) (kids ns nm p left last)) ≤ m → pos + length (nodeBytes idSize ns nm b kid) ≤ m
+  each-room : (m : ℕ) → pos + length (each (nodeBytes idSize ns nm b) (kids ns nm p left last)) ≤ m → pos + length (nodeBytes idSize ns nm b kid) ≤ m
   each-room m h = omega (arith, each-long)
 
-  pub each-next : (pos′ : ℕ) → pos′ ≡ pos + length (nodeBytes idSize ns nm b kid) → pos′ + length (each (nodeBytes idSize ns nm b) (kids ns nm p (left - 1) kid)) ≡ pos + length (each (nodeBytes idSize ns nm b) (kids ns nm p left last))
+  each-next : (pos′ : ℕ) → pos′ ≡ pos + length (nodeBytes idSize ns nm b kid) → pos′ + length (each (nodeBytes idSize ns nm b) (kids ns nm p (left - 1) kid)) ≡ pos + length (each (nodeBytes idSize ns nm b) (kids ns nm p left last))
   each-next pos′ e = omega (arith, each-long)
 
-  pub each-put : (d d′ r : List ℕ) (pos′ : ℕ) → pos ≤ length d → put d pos (each (nodeBytes idSize ns nm b) (kids ns nm p left last)) ≡ r → d′ ≡ put d pos (nodeBytes idSize ns nm b kid) → pos′ ≡ pos + length (nodeBytes idSize ns nm b kid) → put d′ pos′ (each (nodeBytes idSize ns nm b) (kids ns nm p (left - 1) kid)) ≡ r
+  each-put : (d d′ r : List ℕ) (pos′ : ℕ) → pos ≤ length d → put d pos (each (nodeBytes idSize ns nm b) (kids ns nm p left last)) ≡ r → d′ ≡ put d pos (nodeBytes idSize ns nm b kid) → pos′ ≡ pos + length (nodeBytes idSize ns nm b kid) → put d′ pos′ (each (nodeBytes idSize ns nm b) (kids ns nm p (left - 1) kid)) ≡ r
   each-put d d′ r pos′ room inv e q = rw (e, q) (put-put d (nodeBytes idSize ns nm b kid) (each (nodeBytes idSize ns nm b) (kids ns nm p (left - 1) kid)) pos room ∙ (rw each-cut at inv))
-
-pub sum-small : (a r : ℕ) → r ≡ cap a → r ≤ largest
-sum-small a r e = omega (arith, cap-small a)
 
 pub node-size-none : (ns nm : List ℕ) (depth me : ℕ) → depth ≡ 0 → 0 ≡ cap (length (nodeBytes idSize ns nm depth me))
 unfolding nodeBytes cap
 node-size-none ns nm depth me h = rw h
 
-pub node-size-start : (ns nm : List ℕ) (depth me size : ℕ) → (depth ≡ 0 → ⊥) → size ≡ cap (length (headBytes idSize ns nm me))
-    → cap (size + length (each (nodeBytes idSize ns nm (depth - 1)) (kids ns nm me (length ns / 72) 0))) ≡ cap (length (nodeBytes idSize ns nm depth me))
-node-size-start ns nm depth me size deep e =
-    let rest : ℕ = length (each (nodeBytes idSize ns nm (depth - 1)) (kids ns nm me (length ns / 72) 0)) in
-    let z : length (headBytes idSize ns nm me) + rest ≡ length (nodeBytes idSize ns nm depth me) = omega (arith, node-long ns nm depth me deep) in
-    ap (λ (k : ℕ). cap (k + rest)) e ∙ cap-cap (length (headBytes idSize ns nm me)) rest ∙ ap cap z
+-- the size so far and that of the children that are left, as they stand, make up the whole
+pub record Adding (ns nm : List ℕ) (b me n j size r : ℕ) : Type 0 where
+  pub low : 1 ≤ j
+  pub small : size ≤ largest
+  pub run : cap (size + sumOver (λ x. length (nodeBytes idSize ns nm b x)) (tableKids ns me (n - j) j)) ≡ r
 
-pub node-size-end : (ns nm : List ℕ) (b me left last size r : ℕ) → size ≤ largest → cap (size + length (each (nodeBytes idSize ns nm b) (kids ns nm me left last))) ≡ r → kids ns nm me left last ≡ [] → size ≡ r
-unfolding each
-node-size-end ns nm b me left last size r small inv none = let z : cap (size + 0) ≡ r = rw none at inv in omega (arith, z, cap-fits (size + 0) (omega arith))
+pub adding-start : (ns nm : List ℕ) (depth me n size : ℕ) → (depth ≡ 0 → ⊥) → n ≡ nodesIn ns → size ≡ cap (length (headBytes idSize ns nm me)) → Adding ns nm (depth - 1) me n 1 size (cap (length (nodeBytes idSize ns nm depth me)))
+adding-start ns nm depth me n size deep en e =
+    let rest : ℕ = sumOver (λ x. length (nodeBytes idSize ns nm (depth - 1) x)) (tableKids ns me (nodesIn ns - 1) 1) in
+    let z : length (headBytes idSize ns nm me) + rest ≡ length (nodeBytes idSize ns nm depth me) =
+    omega (arith, node-long ns nm depth me deep, each-length (nodeBytes idSize ns nm (depth - 1)) (kids ns nm me (length ns / 72) 0), kids-sum ns nm me (λ x. length (nodeBytes idSize ns nm (depth - 1) x))) in
+    record {
+      low = omega arith;
+      small = omega (arith, cap-small (length (headBytes idSize ns nm me)));
+      run = rw en (ap (λ (k : ℕ). cap (k + rest)) e ∙ cap-cap (length (headBytes idSize ns nm me)) rest ∙ ap cap z);
+    }
 
-pub node-size-more : (ns nm : List ℕ) (b me left last kid size size′ one r : ℕ) → cap (size + length (each (nodeBytes idSize ns nm b) (kids ns nm me left last))) ≡ r → kids ns nm me left last ≡ kid ∷ kids ns nm me (left - 1) kid
-    → one ≡ cap (length (nodeBytes idSize ns nm b kid)) → size′ ≡ cap (size + one) → cap (size′ + length (each (nodeBytes idSize ns nm b) (kids ns nm me (left - 1) kid))) ≡ r
-node-size-more ns nm b me left last kid size size′ one r inv is e q =
-    let rest : ℕ = length (each (nodeBytes idSize ns nm b) (kids ns nm me (left - 1) kid)) in
-    let x : size + one + rest ≡ one + (size + rest) = omega arith in
-    let y : length (nodeBytes idSize ns nm b kid) + (size + rest) ≡ size + length (each (nodeBytes idSize ns nm b) (kids ns nm me left last)) = omega (arith, each-long b ns nm me left last kid 0 is) in
-    ap (λ (k : ℕ). cap (k + rest)) q
-    ∙ cap-cap (size + one) rest
-    ∙ ap cap x
-    ∙ ap (λ (k : ℕ). cap (k + (size + rest))) e
-    ∙ cap-cap (length (nodeBytes idSize ns nm b kid)) (size + rest)
-    ∙ ap cap y
-    ∙ inv
+module _ (ns nm : List ℕ) (b me n j size r : ℕ) (inv : Adding ns nm b me n j size r) where
+  abbrev sizes : ℕ → ℕ
+  sizes x = length (nodeBytes idSize ns nm b x)
+
+  pub adding-end : n ≤ j → size ≡ r
+  unfolding passing sumOver
+  adding-end h =
+      let q : n - j ≡ 0 = omega arith in
+      let z : cap (size + 0) ≡ r = rw q at (inv .run) in
+      omega (arith, z, cap-fits (size + 0) (omega (arith, inv .small)))
+
+  module _ (h : j < n) (p : ℕ) (e : p ≡ parentAt ns j) where
+    kids-cut : tableKids ns me (n - j) j ≡ pick (isChild ns me j) (j ∷ tableKids ns me (n - (j + 1)) (j + 1)) (tableKids ns me (n - (j + 1)) (j + 1))
+    unfolding passing
+    kids-cut = let z : n - j ≡ suc (n - (j + 1)) = omega arith in ap (λ (k : ℕ). tableKids ns me k j) z
+
+    pub adding-other : (p ≡ me → ⊥) → Adding ns nm b me n (j + 1) size r
+    adding-other d = record {
+      low = omega arith;
+      small = inv .small;
+      run = sym (ap (λ (l : List ℕ). cap (size + sumOver sizes l)) (kids-cut ∙ rw (ne-eqb (parentAt ns j) me (λ q. d (e ∙ q))))) ∙ inv .run;
+    }
+
+    pub adding-kid : p ≡ me → (one next : ℕ) → one ≡ cap (length (nodeBytes idSize ns nm b j)) → next ≡ cap (size + one) → Adding ns nm b me n (j + 1) next r
+    unfolding sumOver
+    adding-kid d one next eo en =
+        let rest : ℕ = sumOver sizes (tableKids ns me (n - (j + 1)) (j + 1)) in
+        let c : tableKids ns me (n - j) j ≡ j ∷ tableKids ns me (n - (j + 1)) (j + 1) = kids-cut ∙ rw (eq-eqb (parentAt ns j) me (sym e ∙ d)) in
+        let x : size + one + rest ≡ one + (size + rest) = omega arith in
+        let y : length (nodeBytes idSize ns nm b j) + (size + rest) ≡ size + sumOver sizes (tableKids ns me (n - j) j) = omega (arith, ap (sumOver sizes) c) in
+        record {
+          low = omega arith;
+          small = omega (arith, cap-small (size + one));
+          run = ap (λ (k : ℕ). cap (k + rest)) en ∙ cap-cap (size + one) rest ∙ ap cap x ∙ ap (λ (k : ℕ). cap (k + (size + rest))) eo ∙ cap-cap (length (nodeBytes idSize ns nm b j)) (size + rest) ∙ ap cap y ∙ inv .run;
+        }
+
+-- ---- the loop that writes the children
+
+-- putting the bytes of the children that are left at the present place gives the whole output, and they fit
+pub record Writing (ns nm : List ℕ) (b me : ℕ) (out₀ : List ℕ) (pos₀ : ℕ) (out : List ℕ) (pos left last : ℕ) : Type 0 where
+  pub long : length out ≡ length out₀
+  pub room : pos + length (each (nodeBytes idSize ns nm b) (kids ns nm me left last)) ≤ length out
+  pub ends : pos + length (each (nodeBytes idSize ns nm b) (kids ns nm me left last)) ≡ pos₀ + length (each (nodeBytes idSize ns nm b) (kids ns nm me (nodesIn ns) 0))
+  pub run : put out pos (each (nodeBytes idSize ns nm b) (kids ns nm me left last)) ≡ put out₀ pos₀ (each (nodeBytes idSize ns nm b) (kids ns nm me (nodesIn ns) 0))
+
+pub writing-start : (ns nm : List ℕ) (depth me at : ℕ) (d d₀ : List ℕ) (pos₀ left : ℕ) → (depth ≡ 0 → ⊥) → at + length (nodeBytes idSize ns nm depth me) ≤ length d → pos₀ ≡ at + length (headBytes idSize ns nm me)
+    → d₀ ≡ put d at (headBytes idSize ns nm me) → left ≡ nodesIn ns → Writing ns nm (depth - 1) me d₀ pos₀ d₀ pos₀ left 0
+writing-start ns nm depth me at d d₀ pos₀ left deep h e q n =
+    let same : length d₀ ≡ length d = ap length q ∙ length-put d (headBytes idSize ns nm me) at (node-head ns nm depth me deep at (length d) h) in
+    record { long = refl; room = rw n (node-rest ns nm depth me deep at (length d) (length d₀) pos₀ h same e); ends = rw n; run = rw n }
+
+module _ (ns nm : List ℕ) (b me : ℕ) (out₀ : List ℕ) (pos₀ : ℕ) (out : List ℕ) (pos left last : ℕ) (inv : Writing ns nm b me out₀ pos₀ out pos left last) where
+  module _ (more : 0 < left) (kid : ℕ) (is : kid ≡ nextKid ns nm me last) (real : kid ≡ 0 → ⊥) where
+    pub writing-room : pos + length (nodeBytes idSize ns nm b kid) ≤ length out
+    writing-room = each-room b ns nm me left last kid pos (kids-more ns nm me left last kid more is real) (length out) (inv .room)
+
+    pub writing-more : (out₁ : List ℕ) (pos₁ : ℕ) → length out₁ ≡ length out → pos₁ ≡ pos + length (nodeBytes idSize ns nm b kid) → out₁ ≡ put out pos (nodeBytes idSize ns nm b kid) → Writing ns nm b me out₀ pos₀ out₁ pos₁ (left - 1) kid
+    writing-more out₁ pos₁ long e q =
+        let cut = kids-more ns nm me left last kid more is real in
+        let on = each-next b ns nm me left last kid pos cut pos₁ e in
+        record {
+          long = long ∙ inv .long;
+          room = omega (arith, on, inv .room);
+          ends = on ∙ inv .ends;
+          run = each-put b ns nm me left last kid pos cut out out₁ (put out₀ pos₀ (each (nodeBytes idSize ns nm b) (kids ns nm me (nodesIn ns) 0))) pos₁ (omega (arith, inv .room)) (inv .run) q e;
+        }
+
+module _ (ns nm : List ℕ) (depth me at : ℕ) (d d₀ : List ℕ) (pos₀ : ℕ) (deep : depth ≡ 0 → ⊥) (h : at + length (nodeBytes idSize ns nm depth me) ≤ length d) (e : pos₀ ≡ at + length (headBytes idSize ns nm me)) (q : d₀ ≡ put d at (headBytes idSize ns nm me))
+    (out : List ℕ) (pos left last : ℕ) (inv : Writing ns nm (depth - 1) me d₀ pos₀ out pos left last) (none : kids ns nm me left last ≡ []) where
+  pub written : (pos ≡ at + length (nodeBytes idSize ns nm depth me)) × (out ≡ put d at (nodeBytes idSize ns nm depth me))
+  written = (node-at ns nm depth me deep at left last pos pos₀ none e (inv .ends), node-put ns nm depth me deep at left last pos pos₀ none e d d₀ out (omega arith) q (inv .run))
 
 -- ---- the whole tree
 
@@ -475,6 +540,6 @@ pub ruleset laws = (bytes-put, byte-put, count-minus, count-digits, minus-room, 
 
 pub ruleset run-laws = (run-start, run-end, run-more)
 
-pub ruleset node-laws = (node-zero-at, node-zero-put, node-head, node-rest, kids-stop, kids-more, kids-none)
+pub ruleset node-laws = (node-zero-at, node-zero-put, node-head)
 
-pub ruleset size-laws = (sum-small, node-size-none, node-size-start)
+pub ruleset size-laws = (node-size-none, adding-start, adding-end, adding-other, adding-kid)

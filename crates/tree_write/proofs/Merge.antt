@@ -6,7 +6,8 @@ use mathlib.Core.List.{List}
 use Prim.Native.Nat.{ℕ, zero, suc, _+_, _-_, _≤_, _<_}
 use native.Mathlib.Omega.{arith}
 use lib.ListN.{length, getD, set, length-set}
-use lib.Seq.{getD-set-same, getD-set-other}
+use lib.Seq.{getD-set-same, getD-set-other, getD-take}
+use borrow.Rule.Slice.PartMut.{putMid, take-put}
 use borrow.Author.Tests.{eq-eqb, ne-eqb}
 use Rattle.laws.specs.Pick.{pick}
 use Rattle.laws.specs.Tests.{lt-or-ge, tri, Same, same, differs, same?}
@@ -18,7 +19,7 @@ use Rattle.tree_write.specs.declared.runs.Runs.{Runs}
 use Rattle.tree_write.specs.Order.{before, false-true, before-not, before-trans, before-total}
 use Rattle.tree_write.specs.Tree.{after, ahead, nextKid}
 use Rattle.tree_write.specs.Kids.{Cand, Best, next-best, after-before, before-after, cand-on}
-use Rattle.tree_write.specs.Runs.{runsHeld, goesOn, follow, Run, begins, goes, Headed, Covers, Ready, firstOf, HeadAt, Least, movedTo, Moved, Stepped}
+use Rattle.tree_write.specs.Runs.{goesOn, follow, Run, begins, goes, Headed, Covers, Ready, firstOf, HeadAt, Least, movedTo, Moved, Stepped}
 
 zero-or : (m : ℕ) → (m ≡ 0) ⊎ (m ≡ 0 → ⊥)
 zero-or zero = inl refl
@@ -193,14 +194,14 @@ ready-next ns nm p last runs heads h q r l = least-next ns nm p last (runs .used
 
 -- heads before k are moved, the others are as they were
 pub record Moving (kid next used k : ℕ) (old new : List ℕ) : Type 0 where
-  pub few : used ≤ runsHeld
-  pub long : length new ≡ runsHeld
+  pub few : used ≤ length new
+  pub long : length new ≡ length old
   pub done : (i : ℕ) → i < k → getD new i 0 ≡ movedTo kid next (getD old i 0)
   pub rest : (i : ℕ) → k ≤ i → getD new i 0 ≡ getD old i 0
 
 module _ (kid next used : ℕ) (old : List ℕ) where
-  pub moving-start : used ≤ runsHeld → length old ≡ runsHeld → Moving kid next used 0 old old
-  moving-start few h = record { few = few; long = h; done = λ i l. absurd (omega arith); rest = λ i l. refl }
+  pub moving-start : used ≤ length old → Moving kid next used 0 old old
+  moving-start few = record { few = few; long = refl; done = λ i l. absurd (omega arith); rest = λ i l. refl }
 
   module _ (k : ℕ) (new : List ℕ) (inv : Moving kid next used k old new) (head : ℕ) (e : head ≡ getD new k 0) (more : k < used) where
     kth : getD old k 0 ≡ head
@@ -208,14 +209,14 @@ module _ (kid next used : ℕ) (old : List ℕ) where
 
     pub moving-head : head ≡ kid → Moving kid next used (k + 1) old (set new k next)
     moving-head q = record {
-      few = inv .few;
+      few = omega (arith, inv .few, length-set new k next);
       long = length-set new k next ∙ inv .long;
       done = λ i l. by (tri i k) l;
       rest = λ i l. getD-set-other new k i next 0 (λ z. omega arith) ∙ inv .rest i (omega arith);
     }
       where
         here : getD (set new k next) k 0 ≡ movedTo kid next (getD old k 0)
-        here = getD-set-same new k next 0 (omega (arith, inv .long, inv .few)) ∙ sym (ap (λ (t : Bool). pick t next (getD old k 0)) (eq-eqb (getD old k 0) kid (kth ∙ q)))
+        here = getD-set-same new k next 0 (omega (arith, inv .few)) ∙ sym (ap (λ (t : Bool). pick t next (getD old k 0)) (eq-eqb (getD old k 0) kid (kth ∙ q)))
 
         by : {i : ℕ} → (i < k) ⊎ ((i ≡ k) ⊎ (k < i)) → i < k + 1 → getD (set new k next) i 0 ≡ movedTo kid next (getD old i 0)
         by {i} (inl m) l = getD-set-other new k i next 0 (λ z. omega arith) ∙ inv .done i m
@@ -302,10 +303,29 @@ module _ (ns nm : List ℕ) (p last kid used : ℕ) (old new : List ℕ) (c : Co
   step-covers : Covers ns nm p kid used new
   step-covers = record { live = step-live; whole = step-whole }
 
+-- what is known needs only the heads of the runs
+pub ready-kept : (ns nm : List ℕ) (p last : ℕ) (runs : Runs) (old new : List ℕ) → Ready ns nm p last runs old → length new ≡ length old → ((i : ℕ) → i < runs .used → getD new i 0 ≡ getD old i 0) → Ready ns nm p last runs new
+ready-kept ns nm p last runs old new h long kept = record { few = omega (arith, h .few); covers = λ q. record { live = live (h .covers q); whole = λ j l k. whole j (h .covers q .whole j l k) } }
+  where
+    live : Covers ns nm p last (runs .used) old → (i : ℕ) → i < runs .used → (getD new i 0 ≡ 0 → ⊥) → (getD new i 0 < nodesIn ns) × Cand ns nm p last (getD new i 0)
+    live c i l d = subst (λ (x : ℕ). (x < nodesIn ns) × Cand ns nm p last x) (sym (kept i l)) (c .live i l (λ z. d (kept i l ∙ z)))
+
+    whole : (j : ℕ) → Headed ns nm p (runs .used) old j → Headed ns nm p (runs .used) new j
+    whole j a = record {
+      place = a .place;
+      low = a .low;
+      some = λ z. a .some (sym (kept (a .place) (a .low)) ∙ z);
+      run = subst (λ (x : ℕ). Run ns nm p x j) (sym (kept (a .place) (a .low))) (a .run);
+    }
+
+-- a store whose part behind those was lent
+pub ready-part : (ns nm : List ℕ) (p last : ℕ) (runs : Runs) (k : ℕ) (old part : List ℕ) → Ready ns nm p last runs old → length (putMid (runs .used) k old part) ≡ length old → Ready ns nm p last runs (putMid (runs .used) k old part)
+ready-part ns nm p last runs k old part h long =
+    ready-kept ns nm p last runs old (putMid (runs .used) k old part) h long (λ i l. sym (getD-take (runs .used) (putMid (runs .used) k old part) i 0 l) ∙ ap (λ (xs : List ℕ). getD xs i 0) (take-put (runs .used) k old part (h .few)) ∙ getD-take (runs .used) old i 0 l)
+
 pub ready-step : (ns nm : List ℕ) (p last kid : ℕ) (runs : Runs) (old new : List ℕ) → Ready ns nm p last runs old → kid ≡ nextKid ns nm p last → (kid ≡ 0 → ⊥) → Stepped ns nm p kid (runs .used) old new → Ready ns nm p kid runs new
 ready-step ns nm p last kid runs old new h is real m = record {
-  few = h .few;
-  long = m .long;
+  few = omega (arith, h .few, m .long);
   covers = λ q. step-covers ns nm p last kid (runs .used) old new (h .covers q) is real m;
 }
 
@@ -313,18 +333,16 @@ ready-step ns nm p last kid runs old new h is real m = record {
 
 -- the children of p up to x stand in the runs so far, and y is the next one
 pub record Begun (ns nm : List ℕ) (p x y used : ℕ) (heads : List ℕ) : Type 0 where
-  pub few : used ≤ runsHeld
-  pub long : length heads ≡ runsHeld
+  pub few : used ≤ length heads
   pub low : p ≤ x
   pub next : y ≡ nextChild ns p x
   pub child : (x ≡ p → ⊥) → (x < nodesIn ns) × (parentAt ns x ≡ p)
   pub live : (i : ℕ) → i < used → (getD heads i 0 < nodesIn ns) × ((0 < getD heads i 0) × (parentAt ns (getD heads i 0) ≡ p))
   pub whole : (j : ℕ) → p < j → j ≤ x → j < nodesIn ns → parentAt ns j ≡ p → Headed ns nm p used heads j
 
-pub begun-start : (ns nm : List ℕ) (p y : ℕ) (heads : List ℕ) → length heads ≡ runsHeld → y ≡ nextChild ns p p → Begun ns nm p p y 0 heads
-begun-start ns nm p y heads h e = record {
+pub begun-start : (ns nm : List ℕ) (p y : ℕ) (heads : List ℕ) → y ≡ nextChild ns p p → Begun ns nm p p y 0 heads
+begun-start ns nm p y heads e = record {
   few = omega arith;
-  long = h;
   low = omega arith;
   next = e;
   child = λ d. absurd (d refl);
@@ -354,7 +372,6 @@ module _ (ns nm : List ℕ) (p : ℕ) (w : walks depthLimit ns ≡ true) (x y us
       let f = begun-next real in
       record {
         few = inv .few;
-        long = inv .long;
         low = omega (arith, inv .low, f .0);
         next = e;
         child = λ q. f .1;
@@ -382,12 +399,11 @@ module _ (ns nm : List ℕ) (p : ℕ) (w : walks depthLimit ns ≡ true) (x y us
         run = subst (λ (z : ℕ). Run ns nm p (getD heads (at-x .place) 0) z) (sym follows) (run-on ns nm p (at-x .run) (λ z. real (follows ∙ z)));
       }
 
-  pub begun-new : (used ≡ runsHeld → ⊥) → (y ≡ 0 → ⊥) → (y₁ : ℕ) → y₁ ≡ nextChild ns p y → Begun ns nm p y y₁ (used + 1) (set heads used y)
-  begun-new room real y₁ e =
+  pub begun-new : used < length heads → (y ≡ 0 → ⊥) → (y₁ : ℕ) → y₁ ≡ nextChild ns p y → Begun ns nm p y y₁ (used + 1) (set heads used y)
+  begun-new less real y₁ e =
       let f = begun-next real in
       record {
-        few = omega (arith, inv .few, less);
-        long = length-set heads used y ∙ inv .long;
+        few = omega (arith, length-set heads used y, less);
         low = omega (arith, inv .low, f .0);
         next = e;
         child = λ q. f .1;
@@ -395,11 +411,8 @@ module _ (ns nm : List ℕ) (p : ℕ) (w : walks depthLimit ns ≡ true) (x y us
         whole = λ j a b c d. ⊎-elim (λ q. kept j (inv .whole j a q c d)) (λ q. subst (λ (z : ℕ). Headed ns nm p (used + 1) (set heads used y) z) (sym q) headed) (reaches j b c d);
       }
     where
-      less : used < runsHeld
-      less = ⊎-elim (λ l. l) (λ l. absurd (room (omega (arith, inv .few)))) (lt-or-ge used runsHeld)
-
       new : getD (set heads used y) used 0 ≡ y
-      new = getD-set-same heads used y 0 (omega (arith, inv .long, less))
+      new = getD-set-same heads used y 0 (omega (arith, less))
 
       old : (i : ℕ) → i < used → getD (set heads used y) i 0 ≡ getD heads i 0
       old i h = getD-set-other heads used i y 0 (λ z. omega arith)
@@ -424,7 +437,7 @@ module _ (ns nm : List ℕ) (p : ℕ) (w : walks depthLimit ns ≡ true) (x y us
       }
 
   pub begun-end : y ≡ 0 → Ready ns nm p 0 (record { quick = true; used = used }) heads
-  begun-end h = record { few = inv .few; long = inv .long; covers = λ q. record { live = λ i l d. (inv .live i l .0, record { real = inv .live i l .1 .0; child = inv .live i l .1 .1; past = at-first ns nm (getD heads i 0) }); whole = λ j l k. inv .whole j (behind j l k) (reached j l k) l (k .child) } }
+  begun-end h = record { few = inv .few; covers = λ q. record { live = λ i l d. (inv .live i l .0, record { real = inv .live i l .1 .0; child = inv .live i l .1 .1; past = at-first ns nm (getD heads i 0) }); whole = λ j l k. inv .whole j (behind j l k) (reached j l k) l (k .child) } }
     where
       behind : (j : ℕ) → j < nodesIn ns → Cand ns nm p 0 j → p < j
       behind j l k = subst (λ (z : ℕ). z < j) (k .child) (child-behind depthLimit ns w j (k .real) l)
@@ -436,9 +449,9 @@ module _ (ns nm : List ℕ) (p : ℕ) (w : walks depthLimit ns ≡ true) (x y us
           none q = omega arith
 
   pub begun-many : Ready ns nm p 0 (record { quick = false; used = used }) heads
-  begun-many = record { few = inv .few; long = inv .long; covers = λ q. absurd (false-true q) }
+  begun-many = record { few = inv .few; covers = λ q. absurd (false-true q) }
 
-pub ready-slow : (ns nm : List ℕ) (p : ℕ) (heads : List ℕ) → length heads ≡ runsHeld → Ready ns nm p 0 (record { quick = false; used = 0 }) heads
-ready-slow ns nm p heads h = record { few = omega arith; long = h; covers = λ q. absurd (false-true q) }
+pub ready-slow : (ns nm : List ℕ) (p : ℕ) (heads : List ℕ) → Ready ns nm p 0 (record { quick = false; used = 0 }) heads
+ready-slow ns nm p heads = record { few = omega arith; covers = λ q. absurd (false-true q) }
 
 pub ruleset runs-laws = (goes-first, goes-next, follow-none, follow-next, follow-falls, first-dead, first-head, first-best, least-start, least-more, least-end, ready-next, moving-start, moving-head, moving-other, moving-end, stepped, begun-start, begun-less, begun-same, begun-new, begun-end, begun-many, ready-slow, is-walk)

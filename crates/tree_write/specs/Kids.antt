@@ -247,7 +247,7 @@ module _ (ns nm : List ℕ) (p : ℕ) where
   -- THE CLAIMS
 
   -- the children of p in the order in which the tree is written
-  pub children : List ℕ
+  unfoldable pub children : List ℕ
   children = kids ns nm p (length ns / 72) 0
 
   first : (j : ℕ) → after ns nm 0 j ≡ true

@@ -2,4 +2,6 @@
 pub mod Order
 pub mod Tree
 pub mod Kids
+pub mod Children
+pub mod Flat
 pub mod Runs

@@ -14,10 +14,6 @@ use Rattle.tree_write.specs.Order.{before}
 use Rattle.tree_write.specs.Tree.{ahead}
 use Rattle.tree_write.specs.Kids.{Cand}
 
--- how many heads of runs are kept
-abbrev pub runsHeld : ℕ
-runsHeld = 64
-
 -- ---- a run
 
 -- child y goes on the run of x; x is no child where it is p itself
@@ -47,8 +43,7 @@ pub record Covers (ns nm : List ℕ) (p last used : ℕ) (heads : List ℕ) : Ty
 
 -- what is known between two children
 pub record Ready (ns nm : List ℕ) (p last : ℕ) (runs : Runs) (heads : List ℕ) : Type 0 where
-  pub few : runs .used ≤ runsHeld
-  pub long : length heads ≡ runsHeld
+  pub few : runs .used ≤ length heads
   pub covers : runs .quick ≡ true → Covers ns nm p last (runs .used) heads
 
 -- ---- the least head
@@ -74,7 +69,7 @@ movedTo kid next head = pick (eqb head kid) next head
 
 -- the same with `next` for the head `kid`, wherever it stands
 pub record Moved (kid next used : ℕ) (old new : List ℕ) : Type 0 where
-  pub long : length new ≡ runsHeld
+  pub long : length new ≡ length old
   pub heads : (i : ℕ) → i < used → getD new i 0 ≡ movedTo kid next (getD old i 0)
 
 abbrev pub Stepped : List ℕ → List ℕ → ℕ → ℕ → ℕ → List ℕ → List ℕ → Type 0

@@ -11,6 +11,7 @@ ghost use Rattle.walk_order.specs.Walk.{walks};
 ghost use Rattle.tree_write.specs.Order.{before};
 ghost use Rattle.tree_write.specs.Tree.{countBytes, frontBytes, numberBytes, idBytes, headBytes, after, ahead, better, nextKid, nodeBytes, treeBytes, putFit};
 
+mod flat;
 mod runs;
 
 // Writes src at `at`, and answers where it ends.
@@ -198,7 +199,7 @@ fn next_kid(nodes: &[u8], names: &[u8], parent: usize, last: usize) -> usize
     best
 }
 
-// Writes node me and, by calling itself, what is below it, at most so many levels deep.
+// Writes node me and, by calling itself, what is below it, at most so many levels deep. The heads of its runs are kept in the lent store, those of the folders below it behind them.
 fn put_node(
     nodes: &[u8],
     names: &[u8],
@@ -207,6 +208,7 @@ fn put_node(
     out: &mut [u8],
     at: usize,
     depth: usize,
+    heads: &mut [usize],
 ) -> usize
     requires { ⌜ at + length (nodeBytes idSize (now nodes) (now names) depth me) ≤ length (now out) ⌝ }
     requires { ⌜ walk ≡ walks depthLimit (now nodes) ⌝ }
@@ -218,49 +220,43 @@ fn put_node(
     }
     let below = depth - 1;
     let mut pos = put_head(nodes, names, me, out, at);
-    let mut heads = [0usize; runs::MOST_RUNS];
-    let runs = runs::begin(nodes, names, walk, me, &mut heads);
+    let runs = runs::begin(nodes, names, walk, me, heads);
     let used = runs.used;
     let mut last: usize = 0;
-    let mut left = nodes.len() / node::NODE_SIZE;
+    let mut left = node::nodes_in(nodes);
     while 0 < left {
-        let kid = runs::next(nodes, names, me, last, runs, &heads);
+        let kid = runs::next(nodes, names, me, last, runs, &*heads);
         if kid == 0 {
             return pos;
         }
-        pos = put_node(nodes, names, walk, kid, out, pos, below);
-        runs::step(nodes, names, me, used, &mut heads, kid);
+        pos = put_node(nodes, names, walk, kid, out, pos, below, &mut heads[used..]);
+        runs::step(nodes, names, me, used, heads, kid);
         last = kid;
         left -= 1;
     }
     pos
 }
 
-// How many bytes node me and what is below it are written into.
-fn node_size(nodes: &[u8], names: &[u8], walk: bool, me: usize, depth: usize) -> usize
-    requires { ⌜ walk ≡ walks depthLimit (now nodes) ⌝ }
+// How many bytes node me and what is below it are written into. A sum needs no order: the children are taken as they stand.
+fn node_size(nodes: &[u8], names: &[u8], me: usize, depth: usize) -> usize
     ensures { λ r. ⌜ r ≡ cap (length (nodeBytes idSize (now (nodes .entry)) (now (names .entry)) depth me)) ⌝ }
 {
     if depth == 0 {
         return 0;
     }
     let below = depth - 1;
+    let n = node::nodes_in(nodes);
     let mut size = head_size(nodes, names, me);
-    let mut heads = [0usize; runs::MOST_RUNS];
-    let runs = runs::begin(nodes, names, walk, me, &mut heads);
-    let used = runs.used;
-    let mut last: usize = 0;
-    let mut left = nodes.len() / node::NODE_SIZE;
-    while 0 < left {
-        let kid = runs::next(nodes, names, me, last, runs, &heads);
-        if kid == 0 {
-            return size;
+    let mut j: usize = 1;
+    while j < n {
+        let p = node::parent(nodes, j);
+        if p == me as u64 {
+            let one = node_size(nodes, names, j, below);
+            size = sums::saturating_add(size, one);
+            j += 1;
+        } else {
+            j += 1;
         }
-        let one = node_size(nodes, names, walk, kid, below);
-        size = sums::saturating_add(size, one);
-        runs::step(nodes, names, me, used, &mut heads, kid);
-        last = kid;
-        left -= 1;
     }
     size
 }
@@ -269,8 +265,29 @@ fn node_size(nodes: &[u8], names: &[u8], walk: bool, me: usize, depth: usize) ->
 pub fn tree_size(nodes: &[u8], names: &[u8]) -> usize
     ensures { λ r. ⌜ r ≡ cap (length (treeBytes idSize depthLimit (now (nodes .entry)) (now (names .entry)))) ⌝ }
 {
+    if flat::is_shallow(nodes) {
+        return flat::heads_size(nodes, names);
+    }
+    node_size(nodes, names, 0, format::DEPTH_LIMIT)
+}
+
+// Writes the tree of a table at `at`, where it fits, in the order of names.
+fn put_merged(nodes: &[u8], names: &[u8], out: &mut [u8], at: usize)
+    requires { ⌜ at + length (treeBytes idSize depthLimit (now nodes) (now names)) ≤ length (now out) ⌝ }
+    ensures { λ _. ⌜ now (out .exit) ≡ put (now (out .entry)) at (treeBytes idSize depthLimit (now (nodes .entry)) (now (names .entry))) ⌝ }
+{
     let walk = walk_order::in_walk_order(nodes);
-    node_size(nodes, names, walk, 0, format::DEPTH_LIMIT)
+    let mut heads = [0usize; runs::MOST_HEADS];
+    put_node(
+        nodes,
+        names,
+        walk,
+        0,
+        out,
+        at,
+        format::DEPTH_LIMIT,
+        &mut heads,
+    );
 }
 
 // Writes the tree of a table at `at`; nothing where it does not fit.
@@ -281,10 +298,13 @@ pub fn put_tree(nodes: &[u8], names: &[u8], out: &mut [u8], at: usize)
         return;
     }
     let room = out.len() - at;
-    let walk = walk_order::in_walk_order(nodes);
-    let size = node_size(nodes, names, walk, 0, format::DEPTH_LIMIT);
+    let size = tree_size(nodes, names);
     if room < size {
         return;
     }
-    put_node(nodes, names, walk, 0, out, at, format::DEPTH_LIMIT);
+    if flat::is_flat(nodes, names) {
+        flat::put_heads(nodes, names, out, at);
+        return;
+    }
+    put_merged(nodes, names, out, at);
 }

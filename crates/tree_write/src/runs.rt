@@ -7,12 +7,12 @@ ghost use lib.ListN.{length};
 ghost use Rattle.format.specs.Format.{depthLimit};
 ghost use Rattle.walk_order.specs.Walk.{walks};
 ghost use Rattle.tree_write.specs.Tree.{nextKid};
-ghost use Rattle.tree_write.specs.Runs.{runsHeld, goesOn, follow, firstOf, Least, Moved, Stepped, Ready};
+ghost use Rattle.tree_write.specs.Runs.{goesOn, follow, firstOf, Least, Moved, Stepped, Ready};
 
-// The most runs that are kept; the children of a folder that has more are found by passes over the table.
-pub const MOST_RUNS: usize = 64;
+// How many heads of runs are kept in all, by a folder and those that it stands in; the children of a folder for whose runs no room is left are found by passes over the table.
+pub const MOST_HEADS: usize = 4096;
 
-// How many runs there are. The first child left of each, or 0, is kept in a lent array, their heads. Not quick where nothing is known of the heads.
+// How many runs there are. The first child left of each, or 0, is kept in a lent store, their heads. Not quick where nothing is known of the heads.
 pub struct Runs {
     pub quick: bool,
     pub used: usize,
@@ -29,9 +29,8 @@ fn goes_on(nodes: &[u8], names: &[u8], p: usize, x: usize, y: usize) -> bool
 }
 
 // The runs of the children of p.
-fn runs_of(nodes: &[u8], names: &[u8], p: usize, heads: &mut [usize; MOST_RUNS]) -> Runs
+fn runs_of(nodes: &[u8], names: &[u8], p: usize, heads: &mut [usize]) -> Runs
     requires { ⌜ walks depthLimit (now nodes) ≡ true ⌝ }
-    requires { ⌜ length (now heads) ≡ runsHeld ⌝ }
     ensures { λ r. ⌜ Ready (now (nodes .entry)) (now (names .entry)) p 0 r (now (heads .exit)) ⌝ }
 {
     let mut used: usize = 0;
@@ -42,7 +41,7 @@ fn runs_of(nodes: &[u8], names: &[u8], p: usize, heads: &mut [usize; MOST_RUNS])
             x = y;
             y = walk_order::next_child(nodes, p, x);
         } else {
-            if used == MOST_RUNS {
+            if heads.len() <= used {
                 return Runs { quick: false, used };
             }
             heads[used] = y;
@@ -55,15 +54,8 @@ fn runs_of(nodes: &[u8], names: &[u8], p: usize, heads: &mut [usize; MOST_RUNS])
 }
 
 // What is known of the children of p before the first of them is written.
-pub fn begin(
-    nodes: &[u8],
-    names: &[u8],
-    walk: bool,
-    p: usize,
-    heads: &mut [usize; MOST_RUNS],
-) -> Runs
+pub fn begin(nodes: &[u8], names: &[u8], walk: bool, p: usize, heads: &mut [usize]) -> Runs
     requires { ⌜ walk ≡ walks depthLimit (now nodes) ⌝ }
-    requires { ⌜ length (now heads) ≡ runsHeld ⌝ }
     ensures { λ r. ⌜ Ready (now (nodes .entry)) (now (names .entry)) p 0 r (now (heads .exit)) ⌝ }
 {
     if walk {
@@ -90,8 +82,8 @@ fn first_of(nodes: &[u8], names: &[u8], head: usize, best: usize) -> usize
 }
 
 // The least head, or 0.
-fn least(nodes: &[u8], names: &[u8], used: usize, heads: &[usize; MOST_RUNS]) -> usize
-    requires { ⌜ (used ≤ runsHeld) × (length (now heads) ≡ runsHeld) ⌝ }
+fn least(nodes: &[u8], names: &[u8], used: usize, heads: &[usize]) -> usize
+    requires { ⌜ used ≤ length (now heads) ⌝ }
     ensures { λ r. ⌜ Least (now (nodes .entry)) (now (names .entry)) used (now (heads .entry)) r ⌝ }
 {
     let mut best: usize = 0;
@@ -105,14 +97,7 @@ fn least(nodes: &[u8], names: &[u8], used: usize, heads: &[usize; MOST_RUNS]) ->
 }
 
 // The first child of p after the last one, or 0.
-pub fn next(
-    nodes: &[u8],
-    names: &[u8],
-    p: usize,
-    last: usize,
-    runs: Runs,
-    heads: &[usize; MOST_RUNS],
-) -> usize
+pub fn next(nodes: &[u8], names: &[u8], p: usize, last: usize, runs: Runs, heads: &[usize]) -> usize
     requires { ⌜ Ready (now nodes) (now names) p last runs (now heads) ⌝ }
     ensures { λ r. ⌜ r ≡ nextKid (now (nodes .entry)) (now (names .entry)) p last ⌝ }
 {
@@ -140,8 +125,8 @@ fn follow(nodes: &[u8], names: &[u8], p: usize, x: usize) -> usize
 }
 
 // Puts `next` for the head `kid`.
-fn move_on(heads: &mut [usize; MOST_RUNS], used: usize, kid: usize, next: usize)
-    requires { ⌜ (used ≤ runsHeld) × (length (now heads) ≡ runsHeld) ⌝ }
+fn move_on(heads: &mut [usize], used: usize, kid: usize, next: usize)
+    requires { ⌜ used ≤ length (now heads) ⌝ }
     ensures { λ _. ⌜ Moved kid next used (now (heads .entry)) (now (heads .exit)) ⌝ }
 {
     let mut i: usize = 0;
@@ -157,15 +142,8 @@ fn move_on(heads: &mut [usize; MOST_RUNS], used: usize, kid: usize, next: usize)
 }
 
 // Moves the heads on past the child `kid`.
-pub fn step(
-    nodes: &[u8],
-    names: &[u8],
-    p: usize,
-    used: usize,
-    heads: &mut [usize; MOST_RUNS],
-    kid: usize,
-)
-    requires { ⌜ (used ≤ runsHeld) × (length (now heads) ≡ runsHeld) ⌝ }
+pub fn step(nodes: &[u8], names: &[u8], p: usize, used: usize, heads: &mut [usize], kid: usize)
+    requires { ⌜ used ≤ length (now heads) ⌝ }
     ensures { λ _. ⌜ Stepped (now (nodes .entry)) (now (names .entry)) p kid used (now (heads .entry)) (now (heads .exit)) ⌝ }
 {
     let next = follow(nodes, names, p, kid);

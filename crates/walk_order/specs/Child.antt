@@ -32,7 +32,7 @@ climb-above ns (suc k) x q e = by (less? q x) (λ h. climb-above ns k (parentAt 
 
 -- ---- a table in walk order
 
-both : (a b : Bool) → pick a b false ≡ true → (a ≡ true) × (b ≡ true)
+pub both : (a b : Bool) → pick a b false ≡ true → (a ≡ true) × (b ≡ true)
 both true b h = (refl, h)
 both false b h = absurd (false-true h)
 

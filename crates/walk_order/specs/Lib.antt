@@ -4,3 +4,4 @@ pub mod Walk
 pub mod Below
 pub mod Child
 pub mod Kid
+pub mod Depth

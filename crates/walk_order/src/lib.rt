@@ -1,8 +1,10 @@
 // Node tables in walk order, as the reader stores them: what is below a node stands right behind it. There a node's children are found among the nodes behind it, and
 // the search ends with the last of them; and from a node the climb by parents leads to the child of a node above that it stands below.
 ghost use mathlib.Core.Path.{_≡_};
+ghost use Prim.Native.Nat.{_≤_};
 ghost use Rattle.format.specs.Format.{depthLimit};
 ghost use Rattle.walk_order.specs.Walk.{climbsTo, walks, nextChild, kidAbove};
+ghost use Rattle.walk_order.specs.Depth.{walksWithin, Level, Climbed};
 
 // Whether `to` is `from`, or is reached from there by parents.
 fn climbs_to(nodes: &[u8], from: usize, to: usize) -> bool
@@ -36,6 +38,47 @@ pub fn in_walk_order(nodes: &[u8]) -> bool
         } else {
             return false;
         }
+    }
+    true
+}
+
+// How deep node `to` stands, where it is `from`, which stands so deep, or is reached from there by parents; 0 where it is not.
+fn depth_above(nodes: &[u8], from: usize, depth: usize, to: usize) -> usize
+    requires { ⌜ Level (now nodes) depth from × (depth ≤ depthLimit) ⌝ }
+    ensures { λ r. ⌜ Climbed (now (nodes .entry)) from to r ⌝ }
+{
+    let mut node = from;
+    let mut left = depth;
+    while to < node {
+        let up = node::parent(nodes, node);
+        node = up as usize;
+        left -= 1;
+    }
+    if node == to {
+        return left;
+    }
+    0
+}
+
+// Whether the table is in walk order and no node stands too deep. How deep a node stands follows from the climb to its parent, so this costs no more than the order alone.
+pub fn walks_within(nodes: &[u8]) -> bool
+    ensures { λ r. ⌜ r ≡ walksWithin depthLimit (now (nodes .entry)) ⌝ }
+{
+    let n = node::nodes_in(nodes);
+    let mut depth: usize = 1;
+    let mut j: usize = 1;
+    while j < n {
+        let p = node::parent(nodes, j);
+        let before = j - 1;
+        let up = depth_above(nodes, before, depth, p as usize);
+        if up == 0 {
+            return false;
+        }
+        if up == format::DEPTH_LIMIT {
+            return false;
+        }
+        depth = up + 1;
+        j += 1;
     }
     true
 }

@@ -8,13 +8,10 @@ use Rattle.proper.proofs.all_kids_fit.Statement.{statement}
 use Rattle.proper.proofs.all_kids_fit.Tie as tie
 
 abbrev Inv-loop : tie.InvT-loop
-Inv-loop nodes names walk n i₀ i = allIn (kidsFit nodes names) (n - i) i ≡ allKidsFit nodes names
+Inv-loop nodes names n i₀ i = allIn (kidsFit nodes names) (n - i) i ≡ allKidsFit nodes names
 
 abbrev μ-loop : tie.MeasureT-loop
-μ-loop nodes names walk n i₀ i = n - i
-
-in-walk-order-requires : tie.Need-in-walk-order-requires Inv-loop μ-loop
-in-walk-order-requires c κs = search (fits, needs)
+μ-loop nodes names n i₀ i = n - i
 
 nodes-in-requires : tie.Need-nodes-in-requires Inv-loop μ-loop
 nodes-in-requires c κs = search (fits, needs)
@@ -22,8 +19,8 @@ nodes-in-requires c κs = search (fits, needs)
 loop-holds : tie.Need-loop-holds Inv-loop μ-loop
 loop-holds c = search (fits, needs)
 
-kids-fit-requires : tie.Need-kids-fit-requires Inv-loop μ-loop
-kids-fit-requires c κs = search (fits, needs)
+table-kids-fit-requires : tie.Need-table-kids-fit-requires Inv-loop μ-loop
+table-kids-fit-requires c κs = search (fits, needs)
 
 add-i : tie.Need-add-i Inv-loop μ-loop
 add-i c = search (fits, needs)
@@ -46,10 +43,9 @@ all-kids-fit-spec =
     (tie.spec
     Inv-loop
     μ-loop
-    in-walk-order-requires
     nodes-in-requires
     loop-holds
-    kids-fit-requires
+    table-kids-fit-requires
     add-i
     loop-less
     loop-again

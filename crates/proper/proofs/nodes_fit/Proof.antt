@@ -1,20 +1,18 @@
+-- `proper::nodes_fit` meets its contract. The invariant: the test of the nodes that are left answers what the whole answers. Assumes nothing.
 use Prim.Native.Nat.{_-_}
 use mathlib.Core.Path.{_≡_}
+use Rattle.format.specs.Format.{depthLimit}
 use Rattle.proper.specs.Proper.{allIn, nodeFits, nodesFit}
 use borrow.Author.Needs.{needs}
-use Rattle.format.specs.Format.{depthLimit}
 use Rattle.proper.proofs.Fits.{fits}
 use Rattle.proper.proofs.nodes_fit.Statement.{statement}
 use Rattle.proper.proofs.nodes_fit.Tie as tie
-use Rattle.proper.proofs.nodes_fit.Reads as reads
-use Rattle.proper.proofs.nodes_fit.Lts as lts
-use Rattle.proper.proofs.node_fits.Reads as node-fits-reads
 
 abbrev Inv-loop : tie.InvT-loop
-Inv-loop nodes names n i₀ i = allIn (nodeFits depthLimit nodes names) (n - i) i ≡ nodesFit depthLimit nodes names
+Inv-loop nodes names shallow n i₀ i = allIn (nodeFits depthLimit nodes names) (n - i) i ≡ nodesFit depthLimit nodes names
 
 abbrev μ-loop : tie.MeasureT-loop
-μ-loop nodes names n i₀ i = n - i
+μ-loop nodes names shallow n i₀ i = n - i
 
 nodes-in-requires : tie.Need-nodes-in-requires Inv-loop μ-loop
 nodes-in-requires c κs = search (fits, needs)

@@ -1,6 +1,7 @@
 -- `tree_write::put_tree` meets its contract. Assumes nothing.
 use native.Mathlib.Omega.{arith}
 use Rattle.tree_write.proofs.Laws.{tree-laws, tree-fits, tree-done}
+use Rattle.tree_write.proofs.Heads.{flat-room, flat-put}
 use borrow.Author.Needs.{needs}
 use Rattle.tree_write.proofs.put_tree.Statement.{statement}
 use Rattle.tree_write.proofs.put_tree.Tie as tie
@@ -11,25 +12,34 @@ returns c = search (tree-laws, needs)
 sub-room : tie.Need-sub-room
 sub-room c = search (tree-laws, needs)
 
-in-walk-order-requires : tie.Need-in-walk-order-requires
-in-walk-order-requires c κs = search (tree-laws, needs)
-
-node-size-requires : tie.Need-node-size-requires
-node-size-requires c κs = search (tree-laws, needs)
+tree-size-requires : tie.Need-tree-size-requires
+tree-size-requires c κs = search (tree-laws, needs)
 
 returns-2 : tie.Need-returns-2
 returns-2 c = search (tree-laws, needs)
 
-put-node-requires : tie.Need-put-node-requires
-put-node-requires c κs = (tree-fits _ _ _ _ _ (c .before .before .before .before .if1 .left) (c .before .before .node-size .ensures) (c .before .if2 .left) (omega arith), c .before .before .before .in-walk-order .ensures)
+is-flat-requires : tie.Need-is-flat-requires
+is-flat-requires c κs = search (tree-laws, needs)
+
+put-heads-requires : tie.Need-put-heads-requires
+put-heads-requires c κs = flat-room _ _ _ (c .before .before .is-flat .ensures) (c .before .if3 .taken) _ _ (tree-fits _ _ _ _ _ (c .before .before .before .before .before .if1 .left) (c .before .before .before .before .tree-size .ensures) (c .before .before .before .if2 .left) (omega arith))
 
 same-length : tie.Need-same-length
 same-length c = search (tree-laws, needs)
 
 returns-3 : tie.Need-returns-3
 returns-3 c =
-    let sized = c .before .before .before .before .before .node-size .ensures in
-    tree-done _ _ _ (c .before .before .before .before .before .before .before .if1 .left) _ sized (omega (arith, c .before .before .before .before .before .before .before)) (c .before .before .before .before .if2 .left) _ (c .before .before .put-node .ensures .1)
+    tree-done _ _ _ (c .before .before .before .before .before .before .before .before .if1 .left) _ (c .before .before .before .before .before .before .before .tree-size .ensures) (omega (arith, c .before .before .before .before .before .before .before .before)) (c .before .before .before .before .before .before .if2 .left) _ (flat-put _ _ _ (c .before .before .before .before .before .is-flat .ensures) (c .before .before .before .before .if3 .taken) _ _ _ (c .before .before .put-heads .ensures))
+
+put-merged-requires : tie.Need-put-merged-requires
+put-merged-requires c κs = tree-fits _ _ _ _ _ (c .before .before .before .before .before .if1 .left) (c .before .before .before .before .tree-size .ensures) (c .before .before .before .if2 .left) (omega arith)
+
+same-length-2 : tie.Need-same-length-2
+same-length-2 c = search (tree-laws, needs)
+
+returns-4 : tie.Need-returns-4
+returns-4 c =
+    tree-done _ _ _ (c .before .before .before .before .before .before .before .before .if1 .left) _ (c .before .before .before .before .before .before .before .tree-size .ensures) (omega (arith, c .before .before .before .before .before .before .before .before)) (c .before .before .before .before .before .before .if2 .left) _ (c .before .before .put-merged .ensures)
 
 pub put-tree-spec : {M : Type 1} → statement M
 put-tree-spec =
@@ -37,9 +47,12 @@ put-tree-spec =
     (tie.spec
     returns
     sub-room
-    in-walk-order-requires
-    node-size-requires
+    tree-size-requires
     returns-2
-    put-node-requires
+    is-flat-requires
+    put-heads-requires
     same-length
-    returns-3)
+    returns-3
+    put-merged-requires
+    same-length-2
+    returns-4)

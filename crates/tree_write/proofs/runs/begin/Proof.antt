@@ -7,6 +7,9 @@ use Rattle.tree_write.proofs.runs.begin.Tie as tie
 runs-of-requires : tie.Need-runs-of-requires
 runs-of-requires c κs = search (runs-laws, needs)
 
+same-length : tie.Need-same-length
+same-length c = search (runs-laws, needs)
+
 returns : tie.Need-returns
 returns c = search (runs-laws, needs)
 
@@ -14,4 +17,4 @@ returns-2 : tie.Need-returns-2
 returns-2 c = search (runs-laws, needs)
 
 pub begin-spec : {M : Type 1} → statement M
-begin-spec = tie.close (tie.spec runs-of-requires returns returns-2)
+begin-spec = tie.close (tie.spec runs-of-requires same-length returns returns-2)

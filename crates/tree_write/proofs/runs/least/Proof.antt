@@ -18,8 +18,8 @@ loop-holds c = search (runs-laws, needs)
 mul-head : tie.Need-mul-head Inv-loop μ-loop
 mul-head c = search (runs-laws, needs)
 
-element-copy-out-head : tie.Need-element-copy-out-head Inv-loop μ-loop
-element-copy-out-head c = search (runs-laws, needs)
+shared-slice-read-head : tie.Need-shared-slice-read-head Inv-loop μ-loop
+shared-slice-read-head c = search (runs-laws, needs)
 
 first-of-requires : tie.Need-first-of-requires Inv-loop μ-loop
 first-of-requires c κs = search (runs-laws, needs)
@@ -44,7 +44,7 @@ least-spec =
     μ-loop
     loop-holds
     mul-head
-    element-copy-out-head
+    shared-slice-read-head
     first-of-requires
     add-i
     loop-less

@@ -19,14 +19,14 @@ loop-holds c = search (runs-laws, needs)
 mul-head : tie.Need-mul-head Inv-loop μ-loop
 mul-head c = search (runs-laws, needs)
 
-element-copy-out-head : tie.Need-element-copy-out-head Inv-loop μ-loop
-element-copy-out-head c = search (runs-laws, needs)
+slice-read-head : tie.Need-slice-read-head Inv-loop μ-loop
+slice-read-head c = search (runs-laws, needs)
 
 mul-heads : tie.Need-mul-heads Inv-loop μ-loop
 mul-heads c = search (runs-laws, needs)
 
-element-write-heads : tie.Need-element-write-heads Inv-loop μ-loop
-element-write-heads c = search (runs-laws, needs)
+slice-write-heads : tie.Need-slice-write-heads Inv-loop μ-loop
+slice-write-heads c = search (runs-laws, needs)
 
 add-i : tie.Need-add-i Inv-loop μ-loop
 add-i c = search (runs-laws, needs)
@@ -46,6 +46,9 @@ loop-less-2 c = search (runs-laws, needs)
 loop-again-2 : tie.Need-loop-again-2 Inv-loop μ-loop
 loop-again-2 c = moving-other _ _ _ _ _ _ (c .before .before .before .loop .inv) _ refl (c .before .before .loop-test .taken) (c .if1 .left)
 
+same-length : tie.Need-same-length Inv-loop μ-loop
+same-length c = search (runs-laws, needs)
+
 returns : tie.Need-returns Inv-loop μ-loop
 returns c = search (runs-laws, needs)
 
@@ -57,13 +60,14 @@ move-on-spec =
     μ-loop
     loop-holds
     mul-head
-    element-copy-out-head
+    slice-read-head
     mul-heads
-    element-write-heads
+    slice-write-heads
     add-i
     loop-less
     loop-again
     add-i-2
     loop-less-2
     loop-again-2
+    same-length
     returns)

@@ -1,5 +1,7 @@
 -- `tree_write::runs::runs_of` meets its contract. The invariant: the children that are passed stand in the runs so far. Assumes nothing.
+use mathlib.Core.Path.{_≡_}
 use Prim.Native.Nat.{_-_}
+use lib.ListN.{length}
 use Rattle.node.specs.Store.{nodesIn}
 use Rattle.tree_write.proofs.Merge.{Begun}
 use borrow.Author.Needs.{needs}
@@ -8,7 +10,7 @@ use Rattle.tree_write.proofs.runs.runs_of.Statement.{statement}
 use Rattle.tree_write.proofs.runs.runs_of.Tie as tie
 
 abbrev Inv-loop : tie.InvT-loop
-Inv-loop nodes names p heads₀ used₀ x₀ y₀ heads used x y = Begun nodes names p x y used heads
+Inv-loop nodes names p heads₀ used₀ x₀ y₀ heads used x y = (length heads ≡ length heads₀) × Begun nodes names p x y used heads
 
 abbrev μ-loop : tie.MeasureT-loop
 μ-loop nodes names p heads₀ used₀ x₀ y₀ heads used x y = nodesIn nodes - x
@@ -31,14 +33,17 @@ loop-less c = search (runs-laws, needs)
 loop-again : tie.Need-loop-again Inv-loop μ-loop
 loop-again c = search (runs-laws, needs)
 
+same-length : tie.Need-same-length Inv-loop μ-loop
+same-length c = search (runs-laws, needs)
+
 returns : tie.Need-returns Inv-loop μ-loop
 returns c = search (runs-laws, needs)
 
 mul-heads : tie.Need-mul-heads Inv-loop μ-loop
 mul-heads c = search (runs-laws, needs)
 
-element-write-heads : tie.Need-element-write-heads Inv-loop μ-loop
-element-write-heads c = search (runs-laws, needs)
+slice-write-heads : tie.Need-slice-write-heads Inv-loop μ-loop
+slice-write-heads c = search (runs-laws, needs)
 
 add-used : tie.Need-add-used Inv-loop μ-loop
 add-used c = search (runs-laws, needs)
@@ -51,6 +56,9 @@ loop-less-2 c = search (runs-laws, needs)
 
 loop-again-2 : tie.Need-loop-again-2 Inv-loop μ-loop
 loop-again-2 c = search (runs-laws, needs)
+
+same-length-2 : tie.Need-same-length-2 Inv-loop μ-loop
+same-length-2 c = search (runs-laws, needs)
 
 returns-2 : tie.Need-returns-2 Inv-loop μ-loop
 returns-2 c = search (runs-laws, needs)
@@ -67,11 +75,13 @@ runs-of-spec =
     next-child-requires-2
     loop-less
     loop-again
+    same-length
     returns
     mul-heads
-    element-write-heads
+    slice-write-heads
     add-used
     next-child-requires-3
     loop-less-2
     loop-again-2
+    same-length-2
     returns-2)

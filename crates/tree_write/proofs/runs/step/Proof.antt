@@ -10,8 +10,11 @@ follow-requires c κs = search (runs-laws, needs)
 move-on-requires : tie.Need-move-on-requires
 move-on-requires c κs = search (runs-laws, needs)
 
+same-length : tie.Need-same-length
+same-length c = search (runs-laws, needs)
+
 returns : tie.Need-returns
 returns c = search (runs-laws, needs)
 
 pub step-spec : {M : Type 1} → statement M
-step-spec = tie.close (tie.spec follow-requires move-on-requires returns)
+step-spec = tie.close (tie.spec follow-requires move-on-requires same-length returns)

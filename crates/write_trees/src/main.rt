@@ -1,0 +1,129 @@
+// Node tables of each kind, checked, sized and written: siblings in byte order, in git's own order and in no order; a table that is not in walk order; a chain of folders as
+// deep as allowed, and one that is a folder deeper, which is not proper, and of which the upper folders are sized and written all the same.
+use libc::STDOUT_FILENO;
+use node::Node;
+
+// The nodes' names are parts of this: "a" from 0 to 1, "ab" from 0 to 2.
+const NAMES: [u8; 20] = *b"abcdefghijklmnopqrst";
+
+// The bytes up to number `last`, in hexadecimal digits.
+fn show_hex(s: &[u8], last: usize) {
+    let mut i: usize = 0;
+    while i < s.len() {
+        if last < i {
+            return;
+        }
+        io::write_all(STDOUT_FILENO, &show::hex_byte(s[i]));
+        i += 1;
+    }
+}
+
+// A node that is out of date, so that it has no id. Its name goes from start to stop.
+fn put(nodes: &mut [u8], i: usize, start: usize, stop: usize, subtrees: u64, parent: u64) {
+    let names = NAMES;
+    let n = Node {
+        start,
+        stop,
+        count: node::MINUS_ONE,
+        subtrees,
+        id: 0,
+        next: 0,
+    };
+    node::put_node(&names, n, parent, nodes, i);
+}
+
+// What the table is, whether it is proper, how many bytes its tree has, and the tree with a byte behind it, which stays as it was.
+fn show_tree(kind: &[u8], nodes: &[u8]) {
+    let names = NAMES;
+    let mut out = [255u8; 512];
+    io::write_all(STDOUT_FILENO, kind);
+    if proper::is_proper(nodes, &names) {
+        io::write_all(STDOUT_FILENO, b" proper ");
+    } else {
+        io::write_all(STDOUT_FILENO, b" not proper ");
+    }
+    let size = tree_write::tree_size(nodes, &names);
+    io::print_decimal(STDOUT_FILENO, size as u64);
+    io::write_all(STDOUT_FILENO, b"\n");
+    tree_write::put_tree(nodes, &names, &mut out, 0);
+    show_hex(&out, size);
+    io::write_all(STDOUT_FILENO, b"\n");
+}
+
+// a with ab below it, b.
+fn byte_order() {
+    let mut nodes = [0u8; 288];
+    put(&mut nodes, 0, 0, 0, 2, node::MINUS_ONE);
+    put(&mut nodes, 1, 0, 1, 1, 0);
+    put(&mut nodes, 2, 0, 2, 0, 1);
+    put(&mut nodes, 3, 1, 2, 0, 0);
+    show_tree(b"byte order:", &nodes);
+}
+
+// b, ab, bc: the shorter first.
+fn git_order() {
+    let mut nodes = [0u8; 288];
+    put(&mut nodes, 0, 0, 0, 3, node::MINUS_ONE);
+    put(&mut nodes, 1, 1, 2, 0, 0);
+    put(&mut nodes, 2, 0, 2, 0, 0);
+    put(&mut nodes, 3, 1, 3, 0, 0);
+    show_tree(b"git's order:", &nodes);
+}
+
+// bc, b with c below it, ab; and the same with bc once more for ab.
+fn no_order() {
+    let mut nodes = [0u8; 360];
+    put(&mut nodes, 0, 0, 0, 3, node::MINUS_ONE);
+    put(&mut nodes, 1, 1, 3, 0, 0);
+    put(&mut nodes, 2, 1, 2, 1, 0);
+    put(&mut nodes, 3, 2, 3, 0, 2);
+    put(&mut nodes, 4, 0, 2, 0, 0);
+    show_tree(b"no order:", &nodes);
+    put(&mut nodes, 4, 1, 3, 0, 0);
+    show_tree(b"no order, a name twice:", &nodes);
+}
+
+// a, b, and then ab below a.
+fn no_walk_order() {
+    let mut nodes = [0u8; 288];
+    put(&mut nodes, 0, 0, 0, 2, node::MINUS_ONE);
+    put(&mut nodes, 1, 0, 1, 1, 0);
+    put(&mut nodes, 2, 1, 2, 0, 0);
+    put(&mut nodes, 3, 0, 2, 0, 1);
+    show_tree(b"not in walk order:", &nodes);
+}
+
+// A folder in each folder, so many in all.
+fn chain(nodes: &mut [u8], levels: usize) {
+    put(nodes, 0, 0, 0, 1, node::MINUS_ONE);
+    let mut i: usize = 1;
+    while i < levels {
+        put(nodes, i, 0, 1, 1, i as u64 - 1);
+        i += 1;
+    }
+    if 0 < levels {
+        let last = levels - 1;
+        put(nodes, last, 0, 1, 0, node::parent(nodes, last));
+    }
+}
+
+fn deepest() {
+    let mut nodes = [0u8; 4608];
+    chain(&mut nodes, 64);
+    show_tree(b"as deep as allowed:", &nodes);
+}
+
+fn too_deep() {
+    let mut nodes = [0u8; 4680];
+    chain(&mut nodes, 65);
+    show_tree(b"a folder too deep:", &nodes);
+}
+
+fn main() {
+    byte_order();
+    git_order();
+    no_order();
+    no_walk_order();
+    deepest();
+    too_deep();
+}
