@@ -29,7 +29,7 @@ use Rattle.write.specs.declared.Options.{Options}
 use Rattle.write.specs.declared.Answer.the-variants.{Done}
 use Rattle.write_entries.specs.Entries.{isGone, stated, fixedOf, frontAt, flagBytes, padOf, entryOf, recordBytes, entriesBytes, keptOf as keptHere, countOf, tableBytes}
 use Rattle.write_entries.specs.Size.{length-front}
-use Rattle.write.specs.File.{headerOf, versionOf, extensionHead, extensionsFor, contents, eoiePart, trailerOf, offsetOf, closedOf, writesTree, hasEoie, writeAll}
+use Rattle.write.specs.File.{headerOf, versionOf, extensionHead, extensionsFor, writesOther, contents, eoiePart, trailerOf, offsetOf, closedOf, writesTree, hasEoie, writeAll}
 use Rattle.write.specs.Parts.{closed-parts}
 use Rattle.claims_write.specs.Meaning.{writtenFlags, keptFrom, keptOf, meaningsOf, PathsEnd}
 use Rattle.claims_write.specs.Entries.{flags-spelled}
@@ -191,10 +191,11 @@ module _ (kind : Kind) where
       others w s = pick w (ext TREE body ∷ []) [] ++ pick s (ext sdir [] ∷ []) []
 
       by : (e : Bool) → o .eoie ≡ e → {n : Bool} → Less 0 (recordsIn rs) n → (w s : Bool)
-          → EoiePart rs o at (others w s) (pick (pick e (pick n (pick w true s) false) false) (ext EOIE (bytesOf 4 at ++ kind .hash (signaturesAndSizes (others w s))) ∷ []) [])
+          → EoiePart rs o at (others w s) (pick (pick e (pick n (writesOther w s) false) false) (ext EOIE (bytesOf 4 at ++ kind .hash (signaturesAndSizes (others w s))) ∷ []) [])
       by false q l w s = eoie-not-asked (λ a b c. true≢false (sym a ∙ q))
       by true q (not-less l) w s = eoie-not-asked (λ a b c. omega arith)
-      by true q (less l) true s = eoie-asked q l (omega arith)
+      by true q (less l) true true = eoie-asked q l (omega arith)
+      by true q (less l) true false = eoie-asked q l (omega arith)
       by true q (less l) false true = eoie-asked q l (lit< tt)
       by true q (less l) false false = eoie-not-asked (λ a b c. omega arith)
 

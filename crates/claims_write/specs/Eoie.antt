@@ -22,7 +22,7 @@ use Rattle.extension.specs.declared.end_of_index_entry.Told.the-variants.{Offse
 use Rattle.write.specs.declared.Options.{Options}
 use Rattle.write.specs.declared.Answer.the-variants.{Done}
 use Rattle.write_entries.specs.Entries.{tableBytes}
-use Rattle.write.specs.File.{headerOf, extensionHead, Extension, extensionsFor, extensionsOf, contents, extensionsAsked, eoiePart, trailerOf, frontOf, bodyOf, offsetOf, closedOf, fileOf, writesTree, hasEoie, bodyBytes, fileBytes, most, versionOf, writeAll}
+use Rattle.write.specs.File.{headerOf, extensionHead, Extension, extensionsFor, writesOther, extensionsOf, contents, extensionsAsked, eoiePart, trailerOf, frontOf, bodyOf, offsetOf, closedOf, fileOf, writesTree, hasEoie, bodyBytes, fileBytes, most, versionOf, writeAll}
 use Rattle.kind.specs.Kind.{Kind}
 use Rattle.write.specs.Parts.{length-head, length-header, length-trailer}
 use Rattle.claims_write.specs.Extensions.{EOIE}
@@ -218,7 +218,7 @@ module _ (kind : Kind) where
   unfolding hasEoie
   some-other n o tree e = by (o .eoie) (ltb 0 n) (writesTree o) (o .sparse) e
     where
-      by : (a b c d : Bool) → pick a (pick b (pick c true d) false) false ≡ true → 0 < length (extensionsFor c tree d)
+      by : (a b c d : Bool) → pick a (pick b (writesOther c d) false) false ≡ true → 0 < length (extensionsFor c tree d)
       by false b c d e = let z : _≡_ {A = ℕ} 0 1 = cc in absurd (omega arith)
       by true false c d e = let z : _≡_ {A = ℕ} 0 1 = cc in absurd (omega arith)
       by true true false false e = let z : _≡_ {A = ℕ} 0 1 = cc in absurd (omega arith)

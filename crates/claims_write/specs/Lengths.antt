@@ -25,7 +25,7 @@ use Rattle.tree_write.specs.Tree.{countBytes, frontBytes, numberBytes, idBytes,
 use Rattle.write.specs.declared.Options.{Options}
 use Rattle.write_entries.specs.Entries.{fixedOf, entryOf, recordBytes, beforeAt, entriesBytes, countOf, tableBytes}
 use Rattle.write_entries.specs.Size.{length-entry}
-use Rattle.write.specs.File.{headerOf, versionOf, contents, eoiePart, trailerOf, frontOf, extensionsOf, extensionsAsked, bodyOf, offsetOf, headSize, writesTree, hasEoie, bodyBytes, fileBytes}
+use Rattle.write.specs.File.{headerOf, versionOf, writesOther, contents, eoiePart, trailerOf, frontOf, extensionsOf, extensionsAsked, bodyOf, offsetOf, headSize, writesTree, hasEoie, bodyBytes, fileBytes}
 use Rattle.write.specs.Extensions.{length-extensions, signed-for, size-for}
 use Rattle.write.specs.Parts.{file-parts, length-header, length-eoie, length-trailer}
 use Rattle.claims_write.specs.Tree.{total, hits, total-zero, total-sum, total-same, kidsOf, kids-are, Level, root, below, level-within}
@@ -214,13 +214,16 @@ writes-tree-is o = by (o .tree)
 
 pub has-eoie-is : (rs : List ℕ) (o : Options) → hasEoie (recordsIn rs) o ≡ eoieAsked rs o
 unfolding hasEoie
-has-eoie-is rs o = ap (λ (w : Bool). pick (o .eoie) (pick (ltb 0 (recordsIn rs)) (pick w true (o .sparse)) false) false) (writes-tree-is o) ∙ by (o .eoie) (ltb 0 (recordsIn rs)) (treeAsked o)
+has-eoie-is rs o =
+    ap (λ (w : Bool). pick (o .eoie) (pick (ltb 0 (recordsIn rs)) (writesOther w (o .sparse)) false) false) (writes-tree-is o) ∙ by (o .eoie) (ltb 0 (recordsIn rs)) (treeAsked o) (o .sparse)
   where
-    by : (e n t : Bool) → pick e (pick n (pick t true (o .sparse)) false) false ≡ (e && (n && (t || o .sparse)))
-    by false n t = refl
-    by true false t = refl
-    by true true true = refl
-    by true true false = refl
+    by : (e n t s : Bool) → pick e (pick n (writesOther t s) false) false ≡ (e && (n && (t || s)))
+    by false n t s = refl
+    by true false t s = refl
+    by true true true true = refl
+    by true true true false = refl
+    by true true false true = refl
+    by true true false false = refl
 
 module _ (kind : Kind) where
   no-eoie : (offset : ℕ) (toc : List ℕ) → length (eoiePart kind false offset toc) ≡ 0

@@ -22,7 +22,7 @@ use Rattle.write_entries.specs.Fitting.{table-fits}
 use Rattle.write.proofs.Laws.{eoie-none}
 use Rattle.write.specs.Parts.{length-header, length-tree-head, length-sparse, length-eoie}
 use Rattle.write.specs.Extensions.{length-extensions, signed-for, size-for, bytes-for, contents-for}
-use Rattle.write.specs.File.{headerOf, headSize, endSize, extensionsFor, extensionsOf, contents, treeHead, sparsePart, headsOf, eoiePart, trailerOf, endOf, frontOf, bodyOf, closedOf, fileOf, writesTree, hasEoie, treeOf, treeFits}
+use Rattle.write.specs.File.{headerOf, headSize, endSize, extensionsFor, writesOther, extensionsOf, contents, treeHead, sparsePart, headsOf, eoiePart, trailerOf, endOf, frontOf, bodyOf, closedOf, fileOf, writesTree, hasEoie, treeOf, treeFits}
 
 -- ---- what is asked for
 
@@ -46,15 +46,23 @@ module _ (o : Options) (records : ℕ) where
     eoie-empty k = sym (rw (h, le-ltb 0 records k))
 
     module _ (k : 0 < records) (writes : Bool) (e : writes ≡ writesTree o) where
-      opened : hasEoie records o ≡ pick writes true (o .sparse)
+      opened : hasEoie records o ≡ writesOther writes (o .sparse)
       unfolding hasEoie writesTree
-      opened = rw (h, lt-ltb 0 records k) (ap (λ (w : Bool). pick w true (o .sparse)) (sym e))
+      opened = rw (h, lt-ltb 0 records k) (ap (λ (w : Bool). writesOther w (o .sparse)) (sym e))
 
       pub eoie-tree : writes ≡ true → true ≡ hasEoie records o
-      eoie-tree l = sym (opened ∙ ap (λ (w : Bool). pick w true (o .sparse)) l)
+      eoie-tree l = sym (opened ∙ ap (λ (w : Bool). writesOther w (o .sparse)) l ∙ by (o .sparse))
+        where
+          by : (s : Bool) → writesOther true s ≡ true
+          by true = refl
+          by false = refl
 
       pub eoie-sparse : writes ≡ false → o .sparse ≡ hasEoie records o
-      eoie-sparse l = sym (opened ∙ ap (λ (w : Bool). pick w true (o .sparse)) l)
+      eoie-sparse l = sym (opened ∙ ap (λ (w : Bool). writesOther w (o .sparse)) l ∙ by (o .sparse))
+        where
+          by : (s : Bool) → writesOther false s ≡ s
+          by true = refl
+          by false = refl
 
 -- ---- the tree
 

@@ -120,9 +120,13 @@ endSize id has = pick has (eoieWholeSize id + id) id
 unfoldable pub writesTree : Options → Bool
 writesTree o = pick (o .tree) (o .cache) false
 
--- EOIE if asked for, the table holds any record (REMOVE included) and TREE or `sdir` was written
+-- another extension is written, whatever its body
+abbrev pub writesOther : Bool → Bool → Bool
+writesOther writes sparse = ltb 0 (length (extensionsFor writes [] sparse))
+
+-- EOIE if asked for, the table holds any record (REMOVE included) and another extension is written
 unfoldable pub hasEoie : ℕ → Options → Bool
-hasEoie n o = pick (o .eoie) (pick (ltb 0 n) (pick (writesTree o) true (o .sparse)) false) false
+hasEoie n o = pick (o .eoie) (pick (ltb 0 n) (writesOther (writesTree o) (o .sparse)) false) false
 
 -- the tree's bytes, none where TREE is not written
 unfoldable pub treeOf : ℕ → ℕ → List ℕ → List ℕ → Bool → List ℕ
