@@ -21,6 +21,7 @@ use Rattle.walk_order.specs.Depth.{allIn, all-each, walksWithin, within-walks, 
 use Rattle.tree_write.specs.Order.{before, before-trans}
 use Rattle.tree_write.specs.Tree.{headBytes, kids, each, nodeBytes, treeBytes}
 use Rattle.tree_write.specs.Kids.{Mem, children, children-are}
+use Rattle.tree_write.specs.Span.{Span}
 use Rattle.tree_write.specs.Children.{passing, tableKids, passing-skip, passing-cut, sumOver, sum-same, each-length, each-same, kids-sum, kids-same}
 
 -- the heads of k nodes from j on, as they stand
@@ -56,13 +57,6 @@ unfoldable pub isFlat : ℕ → List ℕ → List ℕ → Bool
 isFlat limit ns nm = pick (isShallow limit ns) (siblingsRise ns nm) false
 
 -- ---- what stands below a node
-
--- what stands below p ends before e
-record Span (ns : List ℕ) (p e : ℕ) : Type 0 where
-  behind : p < e
-  within : e ≤ nodesIn ns
-  inner : (j : ℕ) → p < j → j < e → p ≤ parentAt ns j
-  left : e < nodesIn ns → parentAt ns e < p
 
 -- the first of k nodes from j on whose parent stands before p
 unfoldable endFrom : List ℕ → ℕ → ℕ → ℕ → ℕ
@@ -269,7 +263,7 @@ module _ (limit : ℕ) (ns nm : List ℕ) (w : walks limit ns ≡ true) (rise : 
   all-rise : (x y : ℕ) → 0 < x → x < y → y < nodesIn ns → parentAt ns x ≡ parentAt ns y → before ns nm x y ≡ true
   all-rise x y a l m q = rises-by (y - x) (parentAt ns x) x y (omega arith) (child-behind limit ns w x a (omega arith)) l m refl (sym q)
 
-shallow-says : (limit : ℕ) (ns : List ℕ) → isShallow limit ns ≡ true → (0 < nodesIn ns) × (walksWithin limit ns ≡ true)
+pub shallow-says : (limit : ℕ) (ns : List ℕ) → isShallow limit ns ≡ true → (0 < nodesIn ns) × (walksWithin limit ns ≡ true)
 unfolding isShallow
 shallow-says limit ns t = let (a, b) = both (ltb 0 (nodesIn ns)) (walksWithin limit ns) t in (ltb-true 0 (nodesIn ns) a, b)
 
