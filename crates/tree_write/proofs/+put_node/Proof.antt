@@ -38,22 +38,22 @@ put-node-returns : (t : ℕ) → put-node-lts.Need-returns (put-node-callees t) 
 put-node-returns t c = search (node-laws, needs)
 
 put-node-sub-below : (t : ℕ) → put-node-lts.Need-sub-below (put-node-callees t) (put-node-at t) put-node.Post put-node-Inv-loop put-node-μ-loop
-put-node-sub-below t c = search (node-laws, needs)
+put-node-sub-below t c = search needs
 
 put-node-put-head-requires : (t : ℕ) → put-node-lts.Need-put-head-requires (put-node-callees t) (put-node-at t) put-node.Post put-node-Inv-loop put-node-μ-loop
 put-node-put-head-requires t c κs = search (node-laws, needs)
 
 put-node-nodes-in-requires : (t : ℕ) → put-node-lts.Need-nodes-in-requires (put-node-callees t) (put-node-at t) put-node.Post put-node-Inv-loop put-node-μ-loop
-put-node-nodes-in-requires t c κs = search (node-laws, needs)
+put-node-nodes-in-requires t c κs = search needs
 
 put-node-loop-holds : (t : ℕ) → put-node-lts.Need-loop-holds (put-node-callees t) (put-node-at t) put-node.Post put-node-Inv-loop put-node-μ-loop
 put-node-loop-holds t c = writing-start _ _ _ _ _ _ _ _ _ (c .before .before .before .before .before .if1 .left) (c .before .before .before .before .before .before .before .before .before .pre .1) (c .before .before .before .put-head .ensures .0) (c .before .before .before .put-head .ensures .1) (c .nodes-in .ensures)
 
 put-node-next-kid-requires : (t : ℕ) → put-node-lts.Need-next-kid-requires (put-node-callees t) (put-node-at t) put-node.Post put-node-Inv-loop put-node-μ-loop
-put-node-next-kid-requires t c κs = search (node-laws, needs)
+put-node-next-kid-requires t c κs = search needs
 
 put-node-same-length : (t : ℕ) → put-node-lts.Need-same-length (put-node-callees t) (put-node-at t) put-node.Post put-node-Inv-loop put-node-μ-loop
-put-node-same-length t c = search (node-laws, needs)
+put-node-same-length t c = search needs
 
 put-node-returns-2 : (t : ℕ) → put-node-lts.Need-returns-2 (put-node-callees t) (put-node-at t) put-node.Post put-node-Inv-loop put-node-μ-loop
 put-node-returns-2 t c = written _ _ _ _ _ _ _ _ (c .before .before .before .before .before .before .before .before .before .if1 .left) (c .before .before .before .before .before .before .before .before .before .before .before .before .before .pre .1) (c .before .before .before .before .before .before .before .put-head .ensures .0) (c .before .before .before .before .before .before .before .put-head .ensures .1) _ _ _ _ (c .before .before .before .loop .inv) (kids-stop _ _ _ _ _ _ (c .before .before .loop-test .taken) (c .before .next-kid .ensures) (c .if2 .taken))
@@ -62,16 +62,16 @@ put-node-put-node-requires : (t : ℕ) → put-node-lts.Need-put-node-requires (
 put-node-put-node-requires t c κs = (omega (arith, pos-of-ne-zero (c .before .before .before .before .before .before .before .before .before .before .if1 .left), c .before .before .before .before .before .before .before .before .before .before .before .before .before .before .pre .0), writing-room _ _ _ _ _ _ _ _ _ _ (c .before .before .before .before .loop .inv) (c .before .before .before .loop-test .taken) _ (c .before .before .next-kid .ensures) (c .before .if2 .left))
 
 put-node-sub-left : (t : ℕ) → put-node-lts.Need-sub-left (put-node-callees t) (put-node-at t) put-node.Post put-node-Inv-loop put-node-μ-loop
-put-node-sub-left t c = search (node-laws, needs)
+put-node-sub-left t c = search needs
 
 put-node-loop-less : (t : ℕ) → put-node-lts.Need-loop-less (put-node-callees t) (put-node-at t) put-node.Post put-node-Inv-loop put-node-μ-loop
-put-node-loop-less t c = search (node-laws, needs)
+put-node-loop-less t c = search needs
 
 put-node-loop-again : (t : ℕ) → put-node-lts.Need-loop-again (put-node-callees t) (put-node-at t) put-node.Post put-node-Inv-loop put-node-μ-loop
 put-node-loop-again t c = writing-more _ _ _ _ _ _ _ _ _ _ (c .before .before .before .before .before .before .before .loop .inv) (c .before .before .before .before .before .before .loop-test .taken) _ (c .before .before .before .before .before .next-kid .ensures) (c .before .before .before .before .if2 .left) _ _ (c .before .before .put-node .kept .1 .1 .1 .0) (c .before .before .put-node .ensures .0) (c .before .before .put-node .ensures .1)
 
 put-node-same-length-2 : (t : ℕ) → put-node-lts.Need-same-length-2 (put-node-callees t) (put-node-at t) put-node.Post put-node-Inv-loop put-node-μ-loop
-put-node-same-length-2 t c = search (node-laws, needs)
+put-node-same-length-2 t c = search needs
 
 put-node-returns-3 : (t : ℕ) → put-node-lts.Need-returns-3 (put-node-callees t) (put-node-at t) put-node.Post put-node-Inv-loop put-node-μ-loop
 put-node-returns-3 t c = written _ _ _ _ _ _ _ _ (c .before .before .before .before .before .before .before .if1 .left) (c .before .before .before .before .before .before .before .before .before .before .before .pre .1) (c .before .before .before .before .before .put-head .ensures .0) (c .before .before .before .before .before .put-head .ensures .1) _ _ _ _ (c .before .loop .inv) (kids-none _ _ _ _ _ (c .loop-test .left))

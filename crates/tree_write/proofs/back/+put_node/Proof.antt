@@ -8,7 +8,7 @@ use Rattle.tree_write.specs.Spine.{Spine}
 use Rattle.tree_write.specs.Back.{Asked}
 use Rattle.tree_write.proofs.Merge.{ready-part}
 use borrow.Author.Needs.{needs}
-use Rattle.tree_write.proofs.Backing.{back-laws, node-none, Backing, backing-start, backing-head, backing-inside, backing-end, backing-room, backing-more, leftAt, left-less, parts-beside}
+use Rattle.tree_write.proofs.Backing.{node-none, Backing, backing-start, backing-head, backing-inside, backing-end, backing-room, backing-more, leftAt, left-less, parts-beside}
 use Prim.Native.Nat.{ℕ, _<_}
 use borrow.Fn.Kinds.{In}
 use borrow.Fn.PlainCycle.{Measures, is, falls, and}
@@ -47,7 +47,7 @@ put-node-returns : (t : ℕ) → put-node-lts.Need-returns (put-node-callees t) 
 put-node-returns t c = (node-none _ _ _ _ _ _ (c .if1 .taken), c .before .before .before .before .before .before .before .before .pre .1 .kept)
 
 put-node-sub-below : (t : ℕ) → put-node-lts.Need-sub-below (put-node-callees t) (put-node-at t) put-node.Post put-node-Inv-loop put-node-μ-loop
-put-node-sub-below t c = search (back-laws, needs)
+put-node-sub-below t c = search needs
 
 put-node-last-kid-requires : (t : ℕ) → put-node-lts.Need-last-kid-requires (put-node-callees t) (put-node-at t) put-node.Post put-node-Inv-loop put-node-μ-loop
 put-node-last-kid-requires t c κs = ((c .before .before .before .before .before .before .before .before .before .before .pre .1 .walk, c .before .before .before .before .before .before .before .before .before .before .pre .1 .span), ((pos-of-ne-zero (c .before .before .if1 .left), c .before .before .before .before .before .before .before .before .before .before .pre .1 .levels), c .before .before .before .before .before .before .before .before .before .before .pre .1 .kept))
@@ -65,25 +65,25 @@ put-node-mul-put-node : (t : ℕ) → put-node-lts.Need-mul-put-node (put-node-c
 put-node-mul-put-node t c = record { fits = omega (arith, c .before .before .before .loop .inv .0 .taken .ready (c .before .if2 .taken) .few, c .before .before .before .loop .inv .1 .0, c .before .before .before .before .before .before .before .before .next .kept .1 .1 .1 .1 .1 .1 .0, c .before .before .before .before .before .before .before .before .before .before .before .before .before .before .before .begin .kept .1 .1 .1 .1 .1 .0, c .before .before .before .before .before .before .before .before .before .before .before .before .before .before .before .before .before .before .before .before .before .before .before .before .before .before .before .before .before .before .before .before .before .good .1 .1 .1 .1 .1 .1 .1 .0 .1) }
 
 put-node-sub-put-node : (t : ℕ) → put-node-lts.Need-sub-put-node (put-node-callees t) (put-node-at t) put-node.Post put-node-Inv-loop put-node-μ-loop
-put-node-sub-put-node t c = search (back-laws, needs)
+put-node-sub-put-node t c = search needs
 
 put-node-part-put-node-start : (t : ℕ) → put-node-lts.Need-part-put-node-start (put-node-callees t) (put-node-at t) put-node.Post put-node-Inv-loop put-node-μ-loop
-put-node-part-put-node-start t c = search (back-laws, needs)
+put-node-part-put-node-start t c = search needs
 
 put-node-part-put-node-end : (t : ℕ) → put-node-lts.Need-part-put-node-end (put-node-callees t) (put-node-at t) put-node.Post put-node-Inv-loop put-node-μ-loop
-put-node-part-put-node-end t c = search (back-laws, needs)
+put-node-part-put-node-end t c = search needs
 
 put-node-mul-put-node-2 : (t : ℕ) → put-node-lts.Need-mul-put-node-2 (put-node-callees t) (put-node-at t) put-node.Post put-node-Inv-loop put-node-μ-loop
 put-node-mul-put-node-2 t c = record { fits = omega (arith, c .before .before .before .before .loop .inv .0 .taken .ready (c .before .before .if2 .taken) .few, c .before .before .before .before .loop .inv .0 .taken .ready (c .before .before .if2 .taken) .beside, c .before .before .before .before .loop .inv .1 .1 .0, c .before .before .before .before .before .before .before .before .before .next .kept .1 .1 .1 .1 .1 .1 .1 .0, c .before .before .before .before .before .before .before .before .before .before .before .before .before .before .before .before .begin .kept .1 .1 .1 .1 .1 .1 .0, c .before .before .before .before .before .before .before .before .before .before .before .before .before .before .before .before .before .before .before .before .before .before .before .before .before .before .before .before .before .before .before .before .before .before .good .1 .1 .1 .1 .1 .1 .1 .1 .0 .1) }
 
 put-node-sub-put-node-2 : (t : ℕ) → put-node-lts.Need-sub-put-node-2 (put-node-callees t) (put-node-at t) put-node.Post put-node-Inv-loop put-node-μ-loop
-put-node-sub-put-node-2 t c = search (back-laws, needs)
+put-node-sub-put-node-2 t c = search needs
 
 put-node-part-put-node-start-2 : (t : ℕ) → put-node-lts.Need-part-put-node-start-2 (put-node-callees t) (put-node-at t) put-node.Post put-node-Inv-loop put-node-μ-loop
-put-node-part-put-node-start-2 t c = search (back-laws, needs)
+put-node-part-put-node-start-2 t c = search needs
 
 put-node-part-put-node-end-2 : (t : ℕ) → put-node-lts.Need-part-put-node-end-2 (put-node-callees t) (put-node-at t) put-node.Post put-node-Inv-loop put-node-μ-loop
-put-node-part-put-node-end-2 t c = search (back-laws, needs)
+put-node-part-put-node-end-2 t c = search needs
 
 put-node-put-node-requires : (t : ℕ) → put-node-lts.Need-put-node-requires (put-node-callees t) (put-node-at t) put-node.Post put-node-Inv-loop put-node-μ-loop
 put-node-put-node-requires t c κs = (omega (arith, pos-of-ne-zero (c .before .before .before .before .before .before .before .before .before .before .before .before .before .before .before .before .before .before .before .before .before .before .before .before .before .before .before .before .before .if1 .left), c .before .before .before .before .before .before .before .before .before .before .before .before .before .before .before .before .before .before .before .before .before .before .before .before .before .before .before .before .before .before .before .before .before .before .before .before .before .pre .0), record { walk = c .before .before .before .before .before .before .before .before .before .before .before .before .before .before .before .before .before .before .before .before .before .before .before .before .before .before .before .before .before .before .before .before .before .before .before .before .before .pre .1 .walk; span = c .before .before .before .before .before .before .before .loop .inv .0 .taken .found .span (c .before .before .before .before .before .if2 .taken); room = backing-room _ _ _ _ _ _ _ (c .before .before .before .before .before .before .before .before .before .before .before .before .before .before .before .before .before .before .before .before .before .before .before .before .before .before .before .before .before .if1 .left) (c .before .before .before .before .before .before .before .before .before .before .before .before .before .before .before .before .before .before .before .before .before .before .before .before .before .before .before .before .before .before .before .before .before .before .before .before .before .pre .1 .room) (c .before .before .before .before .before .before .before .before .before .before .before .before .before .before .before .before .before .before .before .before .before .before .before .before .before .before .before .before .before .before .before .before .before .before .before .before .before .pre .1 .inside) _ _ _ _ _ _ (c .before .before .before .before .before .before .before .loop .inv .0) (c .before .before .before .before .before .if2 .taken); inside = backing-inside _ _ _ _ _ _ _ (c .before .before .before .before .before .before .before .before .before .before .before .before .before .before .before .before .before .before .before .before .before .before .before .before .before .before .before .before .before .if1 .left) (c .before .before .before .before .before .before .before .before .before .before .before .before .before .before .before .before .before .before .before .before .before .before .before .before .before .before .before .before .before .before .before .before .before .before .before .before .before .pre .1 .room) (c .before .before .before .before .before .before .before .before .before .before .before .before .before .before .before .before .before .before .before .before .before .before .before .before .before .before .before .before .before .before .before .before .before .before .before .before .before .pre .1 .inside) _ _ _ _ _ _ (c .before .before .before .before .before .before .before .loop .inv .0); beside = parts-beside _ (c .before .before .before .before .before .before .before .loop .stops) (c .before .before .before .before .before .before .before .loop .tails) (c .before .before .before .before .before .before .before .loop .inv .0 .taken .ready (c .before .before .before .before .before .if2 .taken) .beside); levels = omega (arith, c .before .before .before .before .before .before .before .before .before .before .before .before .before .before .before .before .before .before .before .before .before .before .before .before .before .before .before .before .before .before .before .before .before .before .before .before .before .pre .1 .levels, c .before .before .before .before .before .before .before .loop .inv .1 .1 .1 .0, c .before .before .before .before .before .before .before .before .before .before .before .before .before .before .before .before .before .before .before .before .before .before .before .before .before .before .last-kid .kept .1 .1 .1 .1 .0); kept = c .before .before .before .before .before .before .before .loop .inv .1 .1 .1 .1 .1 })
@@ -101,19 +101,19 @@ put-node-put-head-requires : (t : ℕ) → put-node-lts.Need-put-head-requires (
 put-node-put-head-requires t c κs = (backing-head _ _ _ _ _ _ _ (c .before .before .before .before .before .before .before .before .before .before .before .before .before .before .before .before .before .before .before .before .before .before .before .before .before .if1 .left) (c .before .before .before .before .before .before .before .before .before .before .before .before .before .before .before .before .before .before .before .before .before .before .before .before .before .before .before .before .before .before .before .before .before .pre .1 .room) (c .before .before .before .before .before .before .before .before .before .before .before .before .before .before .before .before .before .before .before .before .before .before .before .before .before .before .before .before .before .before .before .before .before .pre .1 .inside) _ _ _ _ _ _ (c .before .before .before .loop .inv .0), backing-inside _ _ _ _ _ _ _ (c .before .before .before .before .before .before .before .before .before .before .before .before .before .before .before .before .before .before .before .before .before .before .before .before .before .if1 .left) (c .before .before .before .before .before .before .before .before .before .before .before .before .before .before .before .before .before .before .before .before .before .before .before .before .before .before .before .before .before .before .before .before .before .pre .1 .room) (c .before .before .before .before .before .before .before .before .before .before .before .before .before .before .before .before .before .before .before .before .before .before .before .before .before .before .before .before .before .before .before .before .before .pre .1 .inside) _ _ _ _ _ _ (c .before .before .before .loop .inv .0))
 
 put-node-same-length : (t : ℕ) → put-node-lts.Need-same-length (put-node-callees t) (put-node-at t) put-node.Post put-node-Inv-loop put-node-μ-loop
-put-node-same-length t c = search (back-laws, needs)
+put-node-same-length t c = search needs
 
 put-node-same-length-2 : (t : ℕ) → put-node-lts.Need-same-length-2 (put-node-callees t) (put-node-at t) put-node.Post put-node-Inv-loop put-node-μ-loop
-put-node-same-length-2 t c = search (back-laws, needs)
+put-node-same-length-2 t c = search needs
 
 put-node-same-length-3 : (t : ℕ) → put-node-lts.Need-same-length-3 (put-node-callees t) (put-node-at t) put-node.Post put-node-Inv-loop put-node-μ-loop
-put-node-same-length-3 t c = search (back-laws, needs)
+put-node-same-length-3 t c = search needs
 
 put-node-same-length-4 : (t : ℕ) → put-node-lts.Need-same-length-4 (put-node-callees t) (put-node-at t) put-node.Post put-node-Inv-loop put-node-μ-loop
 put-node-same-length-4 t c = omega (arith, c .before .before .before .before .before .before .loop .inv .1 .1 .1 .0, c .before .before .before .before .before .before .before .before .before .before .before .before .before .before .before .before .before .before .before .before .before .before .before .before .before .last-kid .kept .1 .1 .1 .1 .0)
 
 put-node-same-length-5 : (t : ℕ) → put-node-lts.Need-same-length-5 (put-node-callees t) (put-node-at t) put-node.Post put-node-Inv-loop put-node-μ-loop
-put-node-same-length-5 t c = search (back-laws, needs)
+put-node-same-length-5 t c = search needs
 
 put-node-returns-2 : (t : ℕ) → put-node-lts.Need-returns-2 (put-node-callees t) (put-node-at t) put-node.Post put-node-Inv-loop put-node-μ-loop
 put-node-returns-2 t c = (backing-end _ _ _ _ _ _ _ (c .before .before .before .before .before .before .before .before .before .before .before .before .before .before .before .before .before .before .before .before .before .before .before .before .before .before .before .before .if1 .left) (c .before .before .before .before .before .before .before .before .before .before .before .before .before .before .before .before .before .before .before .before .before .before .before .before .before .before .before .before .before .before .before .before .before .before .before .before .pre .1 .room) (c .before .before .before .before .before .before .before .before .before .before .before .before .before .before .before .before .before .before .before .before .before .before .before .before .before .before .before .before .before .before .before .before .before .before .before .before .pre .1 .inside) _ _ _ _ _ _ (c .before .before .before .before .before .before .loop .inv .0) (c .before .before .before .before .if2 .left) _ _ (c .before .before .put-head .ensures), c .before .before .before .before .before .before .loop .inv .1 .1 .1 .1 .1)

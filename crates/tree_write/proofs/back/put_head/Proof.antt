@@ -2,13 +2,12 @@
 use mathlib.Core.Path.{refl}
 use native.Mathlib.Omega.{arith}
 use Rattle.tree_write.proofs.Backing.{head-fits, head-filed}
-use Rattle.tree_write.proofs.Backing.{back-laws}
 use borrow.Author.Needs.{needs}
 use Rattle.tree_write.proofs.back.put_head.Statement.{statement}
 use Rattle.tree_write.proofs.back.put_head.Tie as tie
 
 head-size-requires : tie.Need-head-size-requires
-head-size-requires c κs = search (back-laws, needs)
+head-size-requires c κs = search needs
 
 sub-at : tie.Need-sub-at
 sub-at c = omega (arith, head-fits _ _ _ _ (c .before .before .before .before .pre .0) (c .before .before .before .before .pre .1) (omega arith) (c .head-size .ensures))
@@ -17,7 +16,7 @@ put-head-requires : tie.Need-put-head-requires
 put-head-requires c κs = omega (arith, head-fits _ _ _ _ (c .before .before .before .before .before .pre .0) (c .before .before .before .before .before .pre .1) (omega arith) (c .before .head-size .ensures))
 
 same-length : tie.Need-same-length
-same-length c = search (back-laws, needs)
+same-length c = search needs
 
 returns : tie.Need-returns
 returns c = head-filed _ _ _ _ _ _ (head-fits _ _ _ _ (c .before .before .before .before .before .before .before .before .pre .0) (c .before .before .before .before .before .before .before .before .pre .1) (omega arith) (c .before .before .before .before .head-size .ensures)) (c .before .before .before .before .before .before .before .before .pre .0) refl (c .before .before .put-head .ensures .1)

@@ -17,13 +17,13 @@ loop-holds : tie.Need-loop-holds Inv-loop μ-loop
 loop-holds c = search (runs-laws, needs)
 
 goes-on-requires : tie.Need-goes-on-requires Inv-loop μ-loop
-goes-on-requires c κs = search (runs-laws, needs)
+goes-on-requires c κs = search needs
 
 sub-kid-above : tie.Need-sub-kid-above Inv-loop μ-loop
-sub-kid-above c = search (runs-laws, needs)
+sub-kid-above c = search needs
 
 kid-above-requires : tie.Need-kid-above-requires Inv-loop μ-loop
-kid-above-requires c κs = search (runs-laws, needs)
+kid-above-requires c κs = search needs
 
 loop-less : tie.Need-loop-less Inv-loop μ-loop
 loop-less c = search (runs-laws, needs)
@@ -32,34 +32,34 @@ loop-again : tie.Need-loop-again Inv-loop μ-loop
 loop-again c = search (runs-laws, needs)
 
 same-length : tie.Need-same-length Inv-loop μ-loop
-same-length c = search (runs-laws, needs)
+same-length c = search needs
 
 same-length-2 : tie.Need-same-length-2 Inv-loop μ-loop
-same-length-2 c = search (runs-laws, needs)
+same-length-2 c = search needs
 
 returns : tie.Need-returns Inv-loop μ-loop
 returns c = search (runs-laws, needs)
 
 mul-tails : tie.Need-mul-tails Inv-loop μ-loop
-mul-tails c = search (runs-laws, needs)
+mul-tails c = search needs
 
 slice-write-tails : tie.Need-slice-write-tails Inv-loop μ-loop
-slice-write-tails c = search (runs-laws, needs)
+slice-write-tails c = search needs
 
 mul-stops : tie.Need-mul-stops Inv-loop μ-loop
-mul-stops c = search (runs-laws, needs)
+mul-stops c = search needs
 
 slice-write-stops : tie.Need-slice-write-stops Inv-loop μ-loop
-slice-write-stops c = search (runs-laws, needs)
+slice-write-stops c = search needs
 
 add-used : tie.Need-add-used Inv-loop μ-loop
-add-used c = search (runs-laws, needs)
+add-used c = search needs
 
 sub-kid-above-2 : tie.Need-sub-kid-above-2 Inv-loop μ-loop
-sub-kid-above-2 c = search (runs-laws, needs)
+sub-kid-above-2 c = search needs
 
 kid-above-requires-2 : tie.Need-kid-above-requires-2 Inv-loop μ-loop
-kid-above-requires-2 c κs = search (runs-laws, needs)
+kid-above-requires-2 c κs = search needs
 
 loop-less-2 : tie.Need-loop-less-2 Inv-loop μ-loop
 loop-less-2 c = search (runs-laws, needs)
@@ -68,10 +68,10 @@ loop-again-2 : tie.Need-loop-again-2 Inv-loop μ-loop
 loop-again-2 c = search (runs-laws, needs)
 
 same-length-3 : tie.Need-same-length-3 Inv-loop μ-loop
-same-length-3 c = search (runs-laws, needs)
+same-length-3 c = search needs
 
 same-length-4 : tie.Need-same-length-4 Inv-loop μ-loop
-same-length-4 c = search (runs-laws, needs)
+same-length-4 c = search needs
 
 returns-2 : tie.Need-returns-2 Inv-loop μ-loop
 returns-2 c = search (runs-laws, needs)

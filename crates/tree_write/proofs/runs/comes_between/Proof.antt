@@ -5,10 +5,10 @@ use Rattle.tree_write.proofs.runs.comes_between.Statement.{statement}
 use Rattle.tree_write.proofs.runs.comes_between.Tie as tie
 
 comes-ahead-requires : tie.Need-comes-ahead-requires
-comes-ahead-requires c κs = search (runs-laws, needs)
+comes-ahead-requires c κs = search needs
 
 comes-after-requires : tie.Need-comes-after-requires
-comes-after-requires c κs = search (runs-laws, needs)
+comes-after-requires c κs = search needs
 
 returns : tie.Need-returns
 returns c = search (runs-laws, needs)

@@ -13,31 +13,31 @@ abbrev μ-loop : tie.MeasureT-loop
 μ-loop nodes names used tails kid₀ place₀ i₀ kid place i = used - i
 
 loop-holds : tie.Need-loop-holds Inv-loop μ-loop
-loop-holds c = search (runs-laws, needs)
+loop-holds c = search needs
 
 mul-tail : tie.Need-mul-tail Inv-loop μ-loop
-mul-tail c = search (runs-laws, needs)
+mul-tail c = search needs
 
 shared-slice-read-tail : tie.Need-shared-slice-read-tail Inv-loop μ-loop
-shared-slice-read-tail c = search (runs-laws, needs)
+shared-slice-read-tail c = search needs
 
 comes-later-requires : tie.Need-comes-later-requires Inv-loop μ-loop
-comes-later-requires c κs = search (runs-laws, needs)
+comes-later-requires c κs = search needs
 
 add-i : tie.Need-add-i Inv-loop μ-loop
-add-i c = search (runs-laws, needs)
+add-i c = search needs
 
 loop-less : tie.Need-loop-less Inv-loop μ-loop
-loop-less c = search (runs-laws, needs)
+loop-less c = search needs
 
 loop-again : tie.Need-loop-again Inv-loop μ-loop
 loop-again c = search (runs-laws, needs)
 
 add-i-2 : tie.Need-add-i-2 Inv-loop μ-loop
-add-i-2 c = search (runs-laws, needs)
+add-i-2 c = search needs
 
 loop-less-2 : tie.Need-loop-less-2 Inv-loop μ-loop
-loop-less-2 c = search (runs-laws, needs)
+loop-less-2 c = search needs
 
 loop-again-2 : tie.Need-loop-again-2 Inv-loop μ-loop
 loop-again-2 c = search (runs-laws, needs)

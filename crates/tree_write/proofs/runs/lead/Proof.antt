@@ -5,16 +5,16 @@ use Rattle.tree_write.proofs.runs.lead.Statement.{statement}
 use Rattle.tree_write.proofs.runs.lead.Tie as tie
 
 sub-kid-above : tie.Need-sub-kid-above
-sub-kid-above c = search (runs-laws, needs)
+sub-kid-above c = search needs
 
 kid-above-requires : tie.Need-kid-above-requires
-kid-above-requires c κs = search (runs-laws, needs)
+kid-above-requires c κs = search needs
 
 returns : tie.Need-returns
 returns c = search (runs-laws, needs)
 
 comes-before-requires : tie.Need-comes-before-requires
-comes-before-requires c κs = search (runs-laws, needs)
+comes-before-requires c κs = search needs
 
 returns-2 : tie.Need-returns-2
 returns-2 c = search (runs-laws, needs)

@@ -12,22 +12,22 @@ abbrev μ-loop : tie.MeasureT-loop
 μ-loop nodes names p end bound kid₀ stop₀ e₀ c₀ kid stop e c = e
 
 sub-kid-above : tie.Need-sub-kid-above Inv-loop μ-loop
-sub-kid-above c = search (runs-laws, needs)
+sub-kid-above c = search needs
 
 kid-above-requires : tie.Need-kid-above-requires Inv-loop μ-loop
-kid-above-requires c κs = search (runs-laws, needs)
+kid-above-requires c κs = search needs
 
 loop-holds : tie.Need-loop-holds Inv-loop μ-loop
 loop-holds c = search (runs-laws, needs)
 
 comes-between-requires : tie.Need-comes-between-requires Inv-loop μ-loop
-comes-between-requires c κs = search (runs-laws, needs)
+comes-between-requires c κs = search needs
 
 sub-kid-above-2 : tie.Need-sub-kid-above-2 Inv-loop μ-loop
-sub-kid-above-2 c = search (runs-laws, needs)
+sub-kid-above-2 c = search needs
 
 kid-above-requires-2 : tie.Need-kid-above-requires-2 Inv-loop μ-loop
-kid-above-requires-2 c κs = search (runs-laws, needs)
+kid-above-requires-2 c κs = search needs
 
 loop-less : tie.Need-loop-less Inv-loop μ-loop
 loop-less c = search (runs-laws, needs)
@@ -36,10 +36,10 @@ loop-again : tie.Need-loop-again Inv-loop μ-loop
 loop-again c = search (runs-laws, needs)
 
 sub-kid-above-3 : tie.Need-sub-kid-above-3 Inv-loop μ-loop
-sub-kid-above-3 c = search (runs-laws, needs)
+sub-kid-above-3 c = search needs
 
 kid-above-requires-3 : tie.Need-kid-above-requires-3 Inv-loop μ-loop
-kid-above-requires-3 c κs = search (runs-laws, needs)
+kid-above-requires-3 c κs = search needs
 
 loop-less-2 : tie.Need-loop-less-2 Inv-loop μ-loop
 loop-less-2 c = search (runs-laws, needs)

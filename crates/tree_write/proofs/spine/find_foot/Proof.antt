@@ -14,40 +14,40 @@ abbrev μ-loop : tie.MeasureT-loop
 μ-loop nodes p leaf depth spine leaves node₀ k₀ node k = k
 
 loop-holds : tie.Need-loop-holds Inv-loop μ-loop
-loop-holds c = search (back-laws, needs)
+loop-holds c = search needs
 
 sub-place : tie.Need-sub-place Inv-loop μ-loop
-sub-place c = search (back-laws, needs)
+sub-place c = search needs
 
 mul-kept : tie.Need-mul-kept Inv-loop μ-loop
-mul-kept c = search (back-laws, needs)
+mul-kept c = search needs
 
 shared-slice-read-kept : tie.Need-shared-slice-read-kept Inv-loop μ-loop
-shared-slice-read-kept c = search (back-laws, needs)
+shared-slice-read-kept c = search needs
 
 mul-node : tie.Need-mul-node Inv-loop μ-loop
-mul-node c = search (back-laws, needs)
+mul-node c = search needs
 
 shared-slice-read-node : tie.Need-shared-slice-read-node Inv-loop μ-loop
-shared-slice-read-node c = search (back-laws, needs)
+shared-slice-read-node c = search needs
 
 returns : tie.Need-returns Inv-loop μ-loop
 returns c = search (back-laws, needs)
 
 parent-requires : tie.Need-parent-requires Inv-loop μ-loop
-parent-requires c κs = search (back-laws, needs)
+parent-requires c κs = search needs
 
 returns-2 : tie.Need-returns-2 Inv-loop μ-loop
 returns-2 c = (itself, omega arith)
 
 sub-k : tie.Need-sub-k Inv-loop μ-loop
-sub-k c = search (back-laws, needs)
+sub-k c = search needs
 
 loop-less : tie.Need-loop-less Inv-loop μ-loop
-loop-less c = search (back-laws, needs)
+loop-less c = search needs
 
 loop-again : tie.Need-loop-again Inv-loop μ-loop
-loop-again c = search (back-laws, needs)
+loop-again c = search needs
 
 returns-3 : tie.Need-returns-3 Inv-loop μ-loop
 returns-3 c = (itself, omega arith)
