@@ -495,8 +495,8 @@ module _ (ns nm : List ℕ) (p end : ℕ) (w : walks depthLimit ns ≡ true) (sp
         reached : (j : ℕ) → Early ns nm p 0 j → e ≤ j
         reached j k = ⊎-elim (λ l. absurd (before-e .none j (k .real) (omega (arith, k .real)) l (k .child))) (λ l. l) (lt-or-ge j e)
 
-    pub begun-many : Ready ns nm p end 0 (record { quick = false; used = used }) tails stops
-    begun-many = record { walk = w; span = sp; few = inv .few; beside = inv .beside; covers = λ q. absurd (false-true q) }
+    pub begun-many : Ready ns nm p end 0 (record { quick = false; used = 0 }) tails stops
+    begun-many = record { walk = w; span = sp; few = omega arith; beside = inv .beside; covers = λ q. absurd (false-true q) }
 
     module _ (real : c ≡ 0 → ⊥) where
       pub begun-less : c < e

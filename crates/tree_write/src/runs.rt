@@ -10,8 +10,8 @@ ghost use Rattle.walk_order.specs.Walk.{walks, kidAbove};
 ghost use Rattle.tree_write.specs.Span.{Span};
 ghost use Rattle.tree_write.specs.Runs.{goesOn, lead, later, between, Greatest, Found, Ready, Stepped, Taken};
 
-// How many tails of runs are kept in all, by a folder and those that it stands in.
-pub const MOST_RUNS: usize = 4096;
+// How many tails of runs are kept in all, by a folder and those that it stands in; each takes two words of the stack.
+pub const MOST_RUNS: usize = 2048;
 
 // How many runs there are. The last child left of each, or 0, is kept in a lent store, their tails, and beside it where what stands below that child ends. Not quick where
 // nothing is known of the tails.
@@ -36,7 +36,7 @@ fn goes_on(nodes: &[u8], names: &[u8], c: usize, e: usize, end: usize) -> bool
     super::comes_before(nodes, names, c, e)
 }
 
-// The runs of the children of p, the last of which is given.
+// The runs of the children of p, the last of which is given. Where they are too many none is kept, so that all room is left to the folders below.
 pub fn begin(
     nodes: &[u8],
     names: &[u8],
@@ -59,7 +59,10 @@ pub fn begin(
             c = walk_order::kid_above(nodes, p, e - 1);
         } else {
             if tails.len() <= used {
-                return Runs { quick: false, used };
+                return Runs {
+                    quick: false,
+                    used: 0,
+                };
             }
             tails[used] = c;
             stops[used] = e;
