@@ -71,7 +71,8 @@ fn git_order() {
     show_tree(b"git's order:", &nodes);
 }
 
-// c with q, pq and a chain p, p below it; bc with q, p, ab below it, in p again q, op; and ab with b, ab, b in one another: the shorter first on every level but one.
+// c with q, pq and p below it, and p in that; ab with b, ab, b in one another; bc with p, q, ab below it, in p again q, op, and in q a. Below c there is no order, elsewhere the
+// shorter stands first.
 fn git_order_below() {
     let mut nodes = [0u8; 1224];
     put(&mut nodes, 0, 0, 0, 3, node::MINUS_ONE);
