@@ -3,7 +3,7 @@ use mathlib.Core.Bool.{Bool, true, false}
 use mathlib.Core.Path.{_≡_, refl, sym, ap, _∙_, subst}
 use mathlib.Core.Logic.{_⊎_, inl, inr, ⊎-elim}
 use mathlib.Core.List.{List, [], _∷_, _++_, append-assoc, append-nil}
-use Prim.Native.Nat.{ℕ, zero, suc, _+_, _-_, _/_, _≤_, _<_}
+use Prim.Native.Nat.{ℕ, suc, _+_, _-_, _≤_, _<_}
 use native.Mathlib.Nat.{pos-of-ne-zero}
 use native.Mathlib.Omega.{arith}
 use lib.Dec.{eqb}
@@ -11,15 +11,15 @@ use lib.ListN.{length, getD, set, take, drop, replicate, length-drop, length-app
 use lib.Seq.{getD-set-same, getD-set-other, length-take-le}
 use borrow.Author.Tests.{eq-eqb, ne-eqb}
 use Rattle.laws.specs.Pick.{pick}
-use Rattle.laws.specs.Put.{put, put-none, put-before, length-put}
+use Rattle.laws.specs.Put.{put, put-none, put-before}
 use Rattle.laws.specs.Tests.{lt-or-ge, tri}
 use Rattle.sums.specs.Cap.{largest, cap, cap-fits}
 use Rattle.format.specs.Format.{depthLimit, idSize}
 use Rattle.node.specs.Store.{nodesIn, parentAt}
-use Rattle.walk_order.specs.Walk.{walks, kidAbove}
+use Rattle.walk_order.specs.Walk.{walks}
 use Rattle.walk_order.specs.Below.{Above, itself, higher, above-low, above-on}
-use Rattle.walk_order.specs.Child.{child-behind, both}
-use Rattle.walk_order.specs.Depth.{walksWithin, within-walks}
+use Rattle.walk_order.specs.Child.{child-behind}
+use Rattle.walk_order.specs.Depth.{within-walks}
 use Rattle.walk_order.specs.Kid.{kid-none}
 use Rattle.tree_write.specs.declared.runs.Runs.{Runs}
 use Rattle.tree_write.specs.declared.runs.Kid.{Kid}
@@ -29,7 +29,7 @@ use Rattle.tree_write.specs.Kids.{Mem, here, there, Rising, done, more, 
 use Rattle.tree_write.specs.Children.{mem-cases}
 use Rattle.tree_write.specs.Span.{Span, span-root, kid-is}
 use Rattle.tree_write.specs.Flat.{isShallow, shallow-says}
-use Rattle.tree_write.specs.Runs.{Early, Last, Found, Ready, Taken}
+use Rattle.tree_write.specs.Runs.{Early, Last, Taken}
 use Rattle.tree_write.specs.Spine.{Spine}
 use Rattle.tree_write.specs.Back.{Asked, Filed}
 use Rattle.tree_write.proofs.Laws.{node-cut, node-long}

@@ -1,6 +1,6 @@
 -- `tree_write::back::put_node` meets its contract. The measure is the depth. The loop's invariant: the children that were taken are written up to the present place, and the next one is taken. Assumes nothing.
-use mathlib.Core.Path.{_≡_, refl, sym, _∙_}
-use Prim.Native.Nat.{_-_, _≤_}
+use mathlib.Core.Path.{_≡_, refl}
+use Prim.Native.Nat.{_-_}
 use native.Mathlib.Nat.{pos-of-ne-zero}
 use native.Mathlib.Omega.{arith}
 use lib.ListN.{length}
@@ -50,10 +50,14 @@ put-node-sub-below : (t : ℕ) → put-node-lts.Need-sub-below (put-node-callees
 put-node-sub-below t c = search needs
 
 put-node-last-kid-requires : (t : ℕ) → put-node-lts.Need-last-kid-requires (put-node-callees t) (put-node-at t) put-node.Post put-node-Inv-loop put-node-μ-loop
-put-node-last-kid-requires t c κs = ((c .before .before .before .before .before .before .before .before .before .before .pre .1 .walk, c .before .before .before .before .before .before .before .before .before .before .pre .1 .span), ((pos-of-ne-zero (c .before .before .if1 .left), c .before .before .before .before .before .before .before .before .before .before .pre .1 .levels), c .before .before .before .before .before .before .before .before .before .before .pre .1 .kept))
+put-node-last-kid-requires t c κs =
+    let asked = c .before .before .before .before .before .before .before .before .before .before .pre .1 in
+    ((asked .walk, asked .span), ((pos-of-ne-zero (c .before .before .if1 .left), asked .levels), asked .kept))
 
 put-node-begin-requires : (t : ℕ) → put-node-lts.Need-begin-requires (put-node-callees t) (put-node-at t) put-node.Post put-node-Inv-loop put-node-μ-loop
-put-node-begin-requires t c κs = ((c .before .before .before .before .before .before .before .before .before .before .before .before .before .before .before .before .before .pre .1 .walk, c .before .before .before .before .before .before .before .before .before .before .before .before .before .before .before .before .before .pre .1 .span), (c .before .before .before .before .before .before .last-kid .ensures .0, c .before .before .before .before .before .before .before .before .before .before .before .before .before .before .before .before .before .pre .1 .beside))
+put-node-begin-requires t c κs =
+    let asked = c .before .before .before .before .before .before .before .before .before .before .before .before .before .before .before .before .before .pre .1 in
+    ((asked .walk, asked .span), (c .before .before .before .before .before .before .last-kid .ensures .0, asked .beside))
 
 put-node-next-requires : (t : ℕ) → put-node-lts.Need-next-requires (put-node-callees t) (put-node-at t) put-node.Post put-node-Inv-loop put-node-μ-loop
 put-node-next-requires t c κs = c .before .before .before .before .before .before .begin .ensures
@@ -62,7 +66,10 @@ put-node-loop-holds : (t : ℕ) → put-node-lts.Need-loop-holds (put-node-calle
 put-node-loop-holds t c = (backing-start _ _ _ _ _ _ _ _ _ _ _ (c .before .before .before .before .next .ensures), (refl, (refl, (refl, (refl, c .before .before .before .before .before .before .before .before .before .before .before .before .before .before .before .before .before .before .last-kid .ensures .1)))))
 
 put-node-mul-put-node : (t : ℕ) → put-node-lts.Need-mul-put-node (put-node-callees t) (put-node-at t) put-node.Post put-node-Inv-loop put-node-μ-loop
-put-node-mul-put-node t c = record { fits = omega (arith, c .before .before .before .loop .inv .0 .taken .ready (c .before .if2 .taken) .few, c .before .before .before .loop .inv .1 .0, c .before .before .before .before .before .before .before .before .next .kept .1 .1 .1 .1 .1 .1 .0, c .before .before .before .before .before .before .before .before .before .before .before .before .before .before .before .begin .kept .1 .1 .1 .1 .1 .0, c .before .before .before .before .before .before .before .before .before .before .before .before .before .before .before .before .before .before .before .before .before .before .before .before .before .before .before .before .before .before .before .before .before .good .1 .1 .1 .1 .1 .1 .1 .0 .1) }
+put-node-mul-put-node t c =
+    let loop = c .before .before .before .loop in
+    let ready = loop .inv .0 .taken .ready (c .before .if2 .taken) in
+    record { fits = omega (arith, ready .few, loop .inv .1 .0, c .before .before .before .before .before .before .before .before .next .kept .1 .1 .1 .1 .1 .1 .0, c .before .before .before .before .before .before .before .before .before .before .before .before .before .before .before .begin .kept .1 .1 .1 .1 .1 .0, c .before .before .before .before .before .before .before .before .before .before .before .before .before .before .before .before .before .before .before .before .before .before .before .before .before .before .before .before .before .before .before .before .before .good .1 .1 .1 .1 .1 .1 .1 .0 .1) }
 
 put-node-sub-put-node : (t : ℕ) → put-node-lts.Need-sub-put-node (put-node-callees t) (put-node-at t) put-node.Post put-node-Inv-loop put-node-μ-loop
 put-node-sub-put-node t c = search needs
@@ -74,7 +81,10 @@ put-node-part-put-node-end : (t : ℕ) → put-node-lts.Need-part-put-node-end (
 put-node-part-put-node-end t c = search needs
 
 put-node-mul-put-node-2 : (t : ℕ) → put-node-lts.Need-mul-put-node-2 (put-node-callees t) (put-node-at t) put-node.Post put-node-Inv-loop put-node-μ-loop
-put-node-mul-put-node-2 t c = record { fits = omega (arith, c .before .before .before .before .loop .inv .0 .taken .ready (c .before .before .if2 .taken) .few, c .before .before .before .before .loop .inv .0 .taken .ready (c .before .before .if2 .taken) .beside, c .before .before .before .before .loop .inv .1 .1 .0, c .before .before .before .before .before .before .before .before .before .next .kept .1 .1 .1 .1 .1 .1 .1 .0, c .before .before .before .before .before .before .before .before .before .before .before .before .before .before .before .before .begin .kept .1 .1 .1 .1 .1 .1 .0, c .before .before .before .before .before .before .before .before .before .before .before .before .before .before .before .before .before .before .before .before .before .before .before .before .before .before .before .before .before .before .before .before .before .before .good .1 .1 .1 .1 .1 .1 .1 .1 .0 .1) }
+put-node-mul-put-node-2 t c =
+    let loop = c .before .before .before .before .loop in
+    let ready = loop .inv .0 .taken .ready (c .before .before .if2 .taken) in
+    record { fits = omega (arith, ready .few, ready .beside, loop .inv .1 .1 .0, c .before .before .before .before .before .before .before .before .before .next .kept .1 .1 .1 .1 .1 .1 .1 .0, c .before .before .before .before .before .before .before .before .before .before .before .before .before .before .before .before .begin .kept .1 .1 .1 .1 .1 .1 .0, c .before .before .before .before .before .before .before .before .before .before .before .before .before .before .before .before .before .before .before .before .before .before .before .before .before .before .before .before .before .before .before .before .before .before .good .1 .1 .1 .1 .1 .1 .1 .1 .0 .1) }
 
 put-node-sub-put-node-2 : (t : ℕ) → put-node-lts.Need-sub-put-node-2 (put-node-callees t) (put-node-at t) put-node.Post put-node-Inv-loop put-node-μ-loop
 put-node-sub-put-node-2 t c = search needs
@@ -86,19 +96,58 @@ put-node-part-put-node-end-2 : (t : ℕ) → put-node-lts.Need-part-put-node-end
 put-node-part-put-node-end-2 t c = search needs
 
 put-node-put-node-requires : (t : ℕ) → put-node-lts.Need-put-node-requires (put-node-callees t) (put-node-at t) put-node.Post put-node-Inv-loop put-node-μ-loop
-put-node-put-node-requires t c κs = (omega (arith, pos-of-ne-zero (c .before .before .before .before .before .before .before .before .before .before .before .before .before .before .before .before .before .before .before .before .before .before .before .before .before .before .before .before .before .if1 .left), c .before .before .before .before .before .before .before .before .before .before .before .before .before .before .before .before .before .before .before .before .before .before .before .before .before .before .before .before .before .before .before .before .before .before .before .before .before .pre .0), record { walk = c .before .before .before .before .before .before .before .before .before .before .before .before .before .before .before .before .before .before .before .before .before .before .before .before .before .before .before .before .before .before .before .before .before .before .before .before .before .pre .1 .walk; span = c .before .before .before .before .before .before .before .loop .inv .0 .taken .found .span (c .before .before .before .before .before .if2 .taken); room = backing-room _ _ _ _ _ _ _ (c .before .before .before .before .before .before .before .before .before .before .before .before .before .before .before .before .before .before .before .before .before .before .before .before .before .before .before .before .before .if1 .left) (c .before .before .before .before .before .before .before .before .before .before .before .before .before .before .before .before .before .before .before .before .before .before .before .before .before .before .before .before .before .before .before .before .before .before .before .before .before .pre .1 .room) (c .before .before .before .before .before .before .before .before .before .before .before .before .before .before .before .before .before .before .before .before .before .before .before .before .before .before .before .before .before .before .before .before .before .before .before .before .before .pre .1 .inside) _ _ _ _ _ _ (c .before .before .before .before .before .before .before .loop .inv .0) (c .before .before .before .before .before .if2 .taken); inside = backing-inside _ _ _ _ _ _ _ (c .before .before .before .before .before .before .before .before .before .before .before .before .before .before .before .before .before .before .before .before .before .before .before .before .before .before .before .before .before .if1 .left) (c .before .before .before .before .before .before .before .before .before .before .before .before .before .before .before .before .before .before .before .before .before .before .before .before .before .before .before .before .before .before .before .before .before .before .before .before .before .pre .1 .room) (c .before .before .before .before .before .before .before .before .before .before .before .before .before .before .before .before .before .before .before .before .before .before .before .before .before .before .before .before .before .before .before .before .before .before .before .before .before .pre .1 .inside) _ _ _ _ _ _ (c .before .before .before .before .before .before .before .loop .inv .0); beside = parts-beside _ (c .before .before .before .before .before .before .before .loop .stops) (c .before .before .before .before .before .before .before .loop .tails) (c .before .before .before .before .before .before .before .loop .inv .0 .taken .ready (c .before .before .before .before .before .if2 .taken) .beside); levels = omega (arith, c .before .before .before .before .before .before .before .before .before .before .before .before .before .before .before .before .before .before .before .before .before .before .before .before .before .before .before .before .before .before .before .before .before .before .before .before .before .pre .1 .levels, c .before .before .before .before .before .before .before .loop .inv .1 .1 .1 .0, c .before .before .before .before .before .before .before .before .before .before .before .before .before .before .before .before .before .before .before .before .before .before .before .before .before .before .last-kid .kept .1 .1 .1 .1 .0); kept = c .before .before .before .before .before .before .before .loop .inv .1 .1 .1 .1 .1 })
+put-node-put-node-requires t c κs =
+    let start = c .before .before .before .before .before .before .before .before .before .before .before .before .before .before .before .before .before .before .before .before .before .before .before .before .before .before .before .before .before .before .before .before .before .before .before .before .before in
+    let asked = start .pre .1 in
+    let deep = c .before .before .before .before .before .before .before .before .before .before .before .before .before .before .before .before .before .before .before .before .before .before .before .before .before .before .before .before .before .if1 .left in
+    let loop = c .before .before .before .before .before .before .before .loop in
+    let inv = loop .inv in
+    let real = c .before .before .before .before .before .if2 .taken in (
+      omega (arith, pos-of-ne-zero deep, start .pre .0),
+      record {
+        walk = asked .walk;
+        span = inv .0 .taken .found .span real;
+        room = backing-room _ _ _ _ _ _ _ deep (asked .room) (asked .inside) _ _ _ _ _ _ (inv .0) real;
+        inside = backing-inside _ _ _ _ _ _ _ deep (asked .room) (asked .inside) _ _ _ _ _ _ (inv .0);
+        beside = parts-beside _ (loop .stops) (loop .tails) (inv .0 .taken .ready real .beside);
+        levels = omega (arith, asked .levels, inv .1 .1 .1 .0, c .before .before .before .before .before .before .before .before .before .before .before .before .before .before .before .before .before .before .before .before .before .before .before .before .before .before .last-kid .kept .1 .1 .1 .1 .0);
+        kept = inv .1 .1 .1 .1 .1;
+      },
+    )
 
 put-node-next-requires-2 : (t : ℕ) → put-node-lts.Need-next-requires-2 (put-node-callees t) (put-node-at t) put-node.Post put-node-Inv-loop put-node-μ-loop
-put-node-next-requires-2 t c κs = ready-part _ _ _ _ _ _ (length (c .before .before .before .before .before .before .before .before .before .before .before .before .before .before .before .before .before .before .before .before .loop .tails) - c .before .before .before .before .before .before .before .before .before .before .before .before .before .before .before .before .before .before .before .before .before .before .before .before .before .before .before .before .before .before .before .before .begin .result .used) (length (c .before .before .before .before .before .before .before .before .before .before .before .before .before .before .before .before .before .before .before .before .loop .stops) - c .before .before .before .before .before .before .before .before .before .before .before .before .before .before .before .before .before .before .before .before .before .before .before .before .before .before .before .before .before .before .before .before .begin .result .used) _ _ (c .before .before .before .before .before .before .before .before .before .before .before .before .put-node .last .1 .1 .1 .1 .1 .1 .1 .0) (c .before .before .before .before .before .before .before .before .before .before .before .before .put-node .last .1 .1 .1 .1 .1 .1 .1 .1 .0) (c .before .before .before .before .before .before .before .before .before .before .before .before .before .before .before .before .before .before .before .before .loop .inv .0 .taken .ready (c .before .before .before .before .before .before .before .before .before .before .before .before .before .before .before .before .before .before .if2 .taken)) (c .before .before .before .before .before .before .before .before .before .tails3 .given .1) (c .before .before .before .before .before .before .before .stops3 .given .1)
+put-node-next-requires-2 t c κs =
+    let loop = c .before .before .before .before .before .before .before .before .before .before .before .before .before .before .before .before .before .before .before .before .loop in
+    let used : ℕ = c .before .before .before .before .before .before .before .before .before .before .before .before .before .before .before .before .before .before .before .before .before .before .before .before .before .before .before .before .before .before .before .before .begin .result .used in
+    let put = c .before .before .before .before .before .before .before .before .before .before .before .before .put-node in
+    ready-part _ _ _ _ _ _ (length (loop .tails) - used) (length (loop .stops) - used) _ _ (put .last .1 .1 .1 .1 .1 .1 .1 .0) (put .last .1 .1 .1 .1 .1 .1 .1 .1 .0) (loop .inv .0 .taken .ready (c .before .before .before .before .before .before .before .before .before .before .before .before .before .before .before .before .before .before .if2 .taken)) (c .before .before .before .before .before .before .before .before .before .tails3 .given .1) (c .before .before .before .before .before .before .before .stops3 .given .1)
 
 put-node-loop-less : (t : ℕ) → put-node-lts.Need-loop-less (put-node-callees t) (put-node-at t) put-node.Post put-node-Inv-loop put-node-μ-loop
 put-node-loop-less t c = left-less _ _ _ _ _ (c .before .before .before .before .before .before .before .before .before .before .before .before .before .before .before .before .before .before .before .before .before .before .before .if2 .taken) (c .before .before .before .before .next2 .ensures .found .last)
 
 put-node-loop-again : (t : ℕ) → put-node-lts.Need-loop-again (put-node-callees t) (put-node-at t) put-node.Post put-node-Inv-loop put-node-μ-loop
-put-node-loop-again t c = (backing-more _ _ _ _ _ _ _ (c .before .before .before .before .before .before .before .before .before .before .before .before .before .before .before .before .before .before .before .before .before .before .before .before .before .before .before .before .before .before .before .before .before .before .before .before .before .before .before .before .before .before .before .before .before .before .before .if1 .left) (c .before .before .before .before .before .before .before .before .before .before .before .before .before .before .before .before .before .before .before .before .before .before .before .before .before .before .before .before .before .before .before .before .before .before .before .before .before .before .before .before .before .before .before .before .before .before .before .before .before .before .before .before .before .before .before .pre .1 .room) (c .before .before .before .before .before .before .before .before .before .before .before .before .before .before .before .before .before .before .before .before .before .before .before .before .before .before .before .before .before .before .before .before .before .before .before .before .before .before .before .before .before .before .before .before .before .before .before .before .before .before .before .before .before .before .before .pre .1 .inside) _ _ _ _ _ _ (c .before .before .before .before .before .before .before .before .before .before .before .before .before .before .before .before .before .before .before .before .before .before .before .before .before .loop .inv .0) (c .before .before .before .before .before .before .before .before .before .before .before .before .before .before .before .before .before .before .before .before .before .before .before .if2 .taken) _ _ _ _ _ (c .before .before .before .before .before .before .before .before .before .before .before .before .before .before .before .before .before .put-node .kept .1 .1 .1 .1 .0) (c .before .before .before .before .before .before .before .before .before .before .before .before .before .before .before .before .before .put-node .ensures .0) (c .before .before .before .before .next2 .ensures), (omega (arith, c .before .before .before .before .before .before .before .before .before .before .before .before .before .before .before .before .before .before .before .before .before .before .before .before .before .loop .inv .1 .0, c .before .before .before .before .before .before .before .before .before .before .before .before .before .before .tails3 .given .1, c .before .before .before .before .next2 .kept .1 .1 .1 .1 .1 .1 .0), (omega (arith, c .before .before .before .before .before .before .before .before .before .before .before .before .before .before .before .before .before .before .before .before .before .before .before .before .before .loop .inv .1 .1 .0, c .before .before .before .before .before .before .before .before .before .before .before .before .stops3 .given .1, c .before .before .before .before .next2 .kept .1 .1 .1 .1 .1 .1 .1 .0), (omega (arith, c .before .before .before .before .before .before .before .before .before .before .before .before .before .before .before .before .before .before .before .before .before .before .before .before .before .loop .inv .1 .1 .1 .0, c .before .before .before .before .before .before .before .before .before .before .before .before .before .before .before .before .before .put-node .kept .1 .1 .1 .1 .1 .1 .1 .1 .1 .0), (omega (arith, c .before .before .before .before .before .before .before .before .before .before .before .before .before .before .before .before .before .before .before .before .before .before .before .before .before .loop .inv .1 .1 .1 .1 .0, c .before .before .before .before .before .before .before .before .before .before .before .before .before .before .before .before .before .put-node .kept .1 .1 .1 .1 .1 .1 .1 .1 .1 .1 .0), c .before .before .before .before .before .before .before .before .before .before .before .before .before .before .before .before .before .put-node .ensures .1)))))
+put-node-loop-again t c =
+    let asked = c .before .before .before .before .before .before .before .before .before .before .before .before .before .before .before .before .before .before .before .before .before .before .before .before .before .before .before .before .before .before .before .before .before .before .before .before .before .before .before .before .before .before .before .before .before .before .before .before .before .before .before .before .before .before .before .pre .1 in
+    let deep = c .before .before .before .before .before .before .before .before .before .before .before .before .before .before .before .before .before .before .before .before .before .before .before .before .before .before .before .before .before .before .before .before .before .before .before .before .before .before .before .before .before .before .before .before .before .before .before .if1 .left in
+    let inv = c .before .before .before .before .before .before .before .before .before .before .before .before .before .before .before .before .before .before .before .before .before .before .before .before .before .loop .inv in
+    let put = c .before .before .before .before .before .before .before .before .before .before .before .before .before .before .before .before .before .put-node in
+    let next = c .before .before .before .before .next2 in (
+      backing-more _ _ _ _ _ _ _ deep (asked .room) (asked .inside) _ _ _ _ _ _ (inv .0) (c .before .before .before .before .before .before .before .before .before .before .before .before .before .before .before .before .before .before .before .before .before .before .before .if2 .taken) _ _ _ _ _ (put .kept .1 .1 .1 .1 .0) (put .ensures .0) (next .ensures),
+      (
+        omega (arith, inv .1 .0, c .before .before .before .before .before .before .before .before .before .before .before .before .before .before .tails3 .given .1, next .kept .1 .1 .1 .1 .1 .1 .0),
+        (
+          omega (arith, inv .1 .1 .0, c .before .before .before .before .before .before .before .before .before .before .before .before .stops3 .given .1, next .kept .1 .1 .1 .1 .1 .1 .1 .0),
+          (omega (arith, inv .1 .1 .1 .0, put .kept .1 .1 .1 .1 .1 .1 .1 .1 .1 .0), (omega (arith, inv .1 .1 .1 .1 .0, put .kept .1 .1 .1 .1 .1 .1 .1 .1 .1 .1 .0), put .ensures .1)),
+        ),
+      ),
+    )
 
 put-node-put-head-requires : (t : ℕ) → put-node-lts.Need-put-head-requires (put-node-callees t) (put-node-at t) put-node.Post put-node-Inv-loop put-node-μ-loop
-put-node-put-head-requires t c κs = (backing-head _ _ _ _ _ _ _ (c .before .before .before .before .before .before .before .before .before .before .before .before .before .before .before .before .before .before .before .before .before .before .before .before .before .if1 .left) (c .before .before .before .before .before .before .before .before .before .before .before .before .before .before .before .before .before .before .before .before .before .before .before .before .before .before .before .before .before .before .before .before .before .pre .1 .room) (c .before .before .before .before .before .before .before .before .before .before .before .before .before .before .before .before .before .before .before .before .before .before .before .before .before .before .before .before .before .before .before .before .before .pre .1 .inside) _ _ _ _ _ _ (c .before .before .before .loop .inv .0), backing-inside _ _ _ _ _ _ _ (c .before .before .before .before .before .before .before .before .before .before .before .before .before .before .before .before .before .before .before .before .before .before .before .before .before .if1 .left) (c .before .before .before .before .before .before .before .before .before .before .before .before .before .before .before .before .before .before .before .before .before .before .before .before .before .before .before .before .before .before .before .before .before .pre .1 .room) (c .before .before .before .before .before .before .before .before .before .before .before .before .before .before .before .before .before .before .before .before .before .before .before .before .before .before .before .before .before .before .before .before .before .pre .1 .inside) _ _ _ _ _ _ (c .before .before .before .loop .inv .0))
+put-node-put-head-requires t c κs =
+    let asked = c .before .before .before .before .before .before .before .before .before .before .before .before .before .before .before .before .before .before .before .before .before .before .before .before .before .before .before .before .before .before .before .before .before .pre .1 in
+    let deep = c .before .before .before .before .before .before .before .before .before .before .before .before .before .before .before .before .before .before .before .before .before .before .before .before .before .if1 .left in
+    let inv = c .before .before .before .loop .inv .0 in
+    (backing-head _ _ _ _ _ _ _ deep (asked .room) (asked .inside) _ _ _ _ _ _ inv, backing-inside _ _ _ _ _ _ _ deep (asked .room) (asked .inside) _ _ _ _ _ _ inv)
 
 put-node-same-length : (t : ℕ) → put-node-lts.Need-same-length (put-node-callees t) (put-node-at t) put-node.Post put-node-Inv-loop put-node-μ-loop
 put-node-same-length t c = search needs
@@ -116,7 +165,11 @@ put-node-same-length-5 : (t : ℕ) → put-node-lts.Need-same-length-5 (put-node
 put-node-same-length-5 t c = search needs
 
 put-node-returns-2 : (t : ℕ) → put-node-lts.Need-returns-2 (put-node-callees t) (put-node-at t) put-node.Post put-node-Inv-loop put-node-μ-loop
-put-node-returns-2 t c = (backing-end _ _ _ _ _ _ _ (c .before .before .before .before .before .before .before .before .before .before .before .before .before .before .before .before .before .before .before .before .before .before .before .before .before .before .before .before .if1 .left) (c .before .before .before .before .before .before .before .before .before .before .before .before .before .before .before .before .before .before .before .before .before .before .before .before .before .before .before .before .before .before .before .before .before .before .before .before .pre .1 .room) (c .before .before .before .before .before .before .before .before .before .before .before .before .before .before .before .before .before .before .before .before .before .before .before .before .before .before .before .before .before .before .before .before .before .before .before .before .pre .1 .inside) _ _ _ _ _ _ (c .before .before .before .before .before .before .loop .inv .0) (c .before .before .before .before .if2 .left) _ _ (c .before .before .put-head .ensures), c .before .before .before .before .before .before .loop .inv .1 .1 .1 .1 .1)
+put-node-returns-2 t c =
+    let asked = c .before .before .before .before .before .before .before .before .before .before .before .before .before .before .before .before .before .before .before .before .before .before .before .before .before .before .before .before .before .before .before .before .before .before .before .before .pre .1 in
+    let deep = c .before .before .before .before .before .before .before .before .before .before .before .before .before .before .before .before .before .before .before .before .before .before .before .before .before .before .before .before .if1 .left in
+    let inv = c .before .before .before .before .before .before .loop .inv in
+    (backing-end _ _ _ _ _ _ _ deep (asked .room) (asked .inside) _ _ _ _ _ _ (inv .0) (c .before .before .before .before .if2 .left) _ _ (c .before .before .put-head .ensures), inv .1 .1 .1 .1 .1)
 
 pub +put-node-spec : {M : Type 1} → statement M
 +put-node-spec = close μ-put-node λ t. put-node-lts.spec (put-node-callees t)
