@@ -15,6 +15,7 @@ use Rattle.laws.specs.Tests.{lt-or-ge, tri, Same, same, differs, same?}
 use Rattle.format.specs.Format.{depthLimit}
 use Rattle.node.specs.Store.{nodesIn, parentAt}
 use Rattle.walk_order.specs.Walk.{walks, kidAbove}
+use Rattle.walk_order.specs.Child.{whole-below}
 use Rattle.tree_write.specs.declared.runs.Runs.{Runs}
 use Rattle.tree_write.specs.declared.runs.Kid.{Kid}
 use Rattle.tree_write.specs.Order.{before, false-true, before-not, before-trans, before-total}
@@ -275,7 +276,7 @@ module _ (ns nm : List ℕ) (p end bound used : ℕ) (tails stops : List ℕ) (w
     old-at i z = ap (λ (x : ℕ). getD tails x 0) z ∙ sym et
 
     before-it : Prior ns p t (kidAbove ns p (t - 1))
-    before-it = prior depthLimit ns w p end sp t (cut-child depthLimit ns w p end sp t (chosen .real) (chosen .inside) (chosen .child))
+    before-it = prior ns (whole-below depthLimit ns w) p end sp t (cut-child ns (whole-below depthLimit ns w) p end sp t (chosen .real) (chosen .inside) (chosen .child))
 
     next-prior : (next ≡ 0 → ⊥) → Prior ns p t next
     next-prior h = subst (λ (x : ℕ). Prior ns p t x) (sym (lead-says ns nm p t h .0)) before-it
@@ -470,18 +471,18 @@ module _ (ns nm : List ℕ) (p end : ℕ) (w : walks depthLimit ns ≡ true) (sp
   begun-start c tails stops e b = record {
     few = omega arith;
     beside = b;
-    cut = cut-end depthLimit ns w p end sp;
+    cut = cut-end ns (whole-below depthLimit ns w) p end sp;
     next = e;
     fresh = λ z. refl;
     live = λ i l. absurd (omega arith);
-    whole = λ j r l m q. absurd (omega (arith, span-child depthLimit ns w p end sp j r m q .1));
+    whole = λ j r l m q. absurd (omega (arith, span-child ns (whole-below depthLimit ns w) p end sp j r m q .1));
     reach = λ i x l. absurd (omega arith);
     apart = λ i j x l m. absurd (omega arith);
   }
 
   module _ (e c used : ℕ) (tails stops : List ℕ) (inv : Begun ns nm p end e c used tails stops) where
     before-e : Prior ns p e c
-    before-e = subst (λ (x : ℕ). Prior ns p e x) (sym (inv .next)) (prior depthLimit ns w p end sp e (inv .cut))
+    before-e = subst (λ (x : ℕ). Prior ns p e x) (sym (inv .next)) (prior ns (whole-below depthLimit ns w) p end sp e (inv .cut))
 
     pub begun-end : c ≡ 0 → Ready ns nm p end 0 (record { quick = true; used = used }) tails stops
     begun-end z = record {
@@ -506,7 +507,7 @@ module _ (ns nm : List ℕ) (p end : ℕ) (w : walks depthLimit ns ≡ true) (sp
       inside = omega (arith, begun-less, inv .cut .within, sp .within)
 
       cut-c : Cut ns p end c
-      cut-c = cut-child depthLimit ns w p end sp c (pos-of-ne-zero real) inside (before-e .child real)
+      cut-c = cut-child ns (whole-below depthLimit ns w) p end sp c (pos-of-ne-zero real) inside (before-e .child real)
 
       -- a child from c on is c, or stands from e on
       from-c : (j : ℕ) → 0 < j → c ≤ j → parentAt ns j ≡ p → (j ≡ c) ⊎ (e ≤ j)
@@ -649,7 +650,7 @@ pub record Listing (ns nm : List ℕ) (p end bound e c kid stop : ℕ) : Type 0 
 module _ (ns nm : List ℕ) (p end bound : ℕ) (w : walks depthLimit ns ≡ true) (sp : Span ns p end) where
   pub listing-start : (c : ℕ) → c ≡ kidAbove ns p (end - 1) → Listing ns nm p end bound end c 0 0
   listing-start c e = record {
-    cut = cut-end depthLimit ns w p end sp;
+    cut = cut-end ns (whole-below depthLimit ns w) p end sp;
     next = e;
     found = λ h. absurd (h refl);
     some = λ i l k z. late i l k;
@@ -657,11 +658,11 @@ module _ (ns nm : List ℕ) (p end bound : ℕ) (w : walks depthLimit ns ≡ tru
   }
     where
       late : (i : ℕ) → end ≤ i → Early ns nm p bound i → ⊥
-      late i l k = omega (arith, span-child depthLimit ns w p end sp i (k .real) (k .inside) (k .child) .1)
+      late i l k = omega (arith, span-child ns (whole-below depthLimit ns w) p end sp i (k .real) (k .inside) (k .child) .1)
 
   module _ (e c kid stop : ℕ) (inv : Listing ns nm p end bound e c kid stop) where
     before-it₂ : Prior ns p e c
-    before-it₂ = subst (λ (x : ℕ). Prior ns p e x) (sym (inv .next)) (prior depthLimit ns w p end sp e (inv .cut))
+    before-it₂ = subst (λ (x : ℕ). Prior ns p e x) (sym (inv .next)) (prior ns (whole-below depthLimit ns w) p end sp e (inv .cut))
 
     pub listing-end : c ≡ 0 → Found ns nm p bound (record { node = kid; end = stop })
     listing-end z = record {
@@ -680,7 +681,7 @@ module _ (ns nm : List ℕ) (p end bound : ℕ) (w : walks depthLimit ns ≡ tru
       inside₂ = omega (arith, listing-less, inv .cut .within, sp .within)
 
       cut₂ : Cut ns p end c
-      cut₂ = cut-child depthLimit ns w p end sp c (pos-of-ne-zero real) inside₂ (before-it₂ .child real)
+      cut₂ = cut-child ns (whole-below depthLimit ns w) p end sp c (pos-of-ne-zero real) inside₂ (before-it₂ .child real)
 
       from₂ : (i : ℕ) → c ≤ i → Early ns nm p bound i → (i ≡ c) ⊎ (e ≤ i)
       from₂ i l k = ⊎-elim (λ m. ⊎-elim (λ q. absurd (before-it₂ .none i (k .real) q m (k .child))) (λ q. inl (omega arith)) (lt-or-ge c i)) (λ m. inr m) (lt-or-ge i e)

@@ -1,5 +1,5 @@
--- The children of a node from the last to the first (01, Writing: "siblings in byte order of name"), as runs of rising names in a table in walk order: where every child that
--- is left stands in a run whose tail is kept, the last child is the last of the tails. Assumes nothing.
+-- The children of a node from the last to the first (01, Writing: "siblings in byte order of name"), as runs of rising names in a table in walk order: where
+-- every child that is left stands in a run whose tail is kept, the last child is the last of the tails. Assumes nothing.
 use mathlib.Core.Bool.{Bool, true, false}
 use mathlib.Core.Path.{_≡_}
 use mathlib.Core.List.{List}
@@ -64,7 +64,8 @@ pub record Tailed (ns nm : List ℕ) (p used : ℕ) (tails : List ℕ) (j : ℕ)
 
 -- each run stands before the one whose tail is kept before its own
 abbrev pub Apart : List ℕ → List ℕ → ℕ → ℕ → List ℕ → Type 0
-Apart ns nm p used tails = (i j x : ℕ) → i < j → j < used → (getD tails i 0 ≡ 0 → ⊥) → (getD tails j 0 ≡ 0 → ⊥) → Run ns nm p (getD tails i 0) x → getD tails j 0 < x
+Apart ns nm p used tails =
+    (i j x : ℕ) → i < j → j < used → (getD tails i 0 ≡ 0 → ⊥) → (getD tails j 0 ≡ 0 → ⊥) → Run ns nm p (getD tails i 0) x → getD tails j 0 < x
 
 -- the tails are children of p before the bound, and every such child stands in a run of theirs
 pub record Covers (ns nm : List ℕ) (p bound used : ℕ) (tails stops : List ℕ) : Type 0 where

@@ -1,6 +1,5 @@
--- What stands below a node of a table in walk order (01, Extensions: "Nodes go to a lent store in file order"): the nodes right behind it, up to an end. So its children are
--- listed from the last to the first, each with where what stands below it ends. Assumes nothing.
-use mathlib.Core.Bool.{true}
+-- What stands below a node of a table in walk order (01, Extensions: "Nodes go to a lent store in file order"): the nodes right behind it, up to an end. So
+-- its children are listed from the last to the first, each with where what stands below it ends. Assumes nothing.
 use mathlib.Core.Path.{_≡_, refl, sym, subst}
 use mathlib.Core.Logic.{_⊎_, inl, inr, ⊎-elim}
 use mathlib.Core.List.{List}
@@ -8,9 +7,8 @@ use Prim.Native.Nat.{ℕ, _+_, _-_, _≤_, _<_}
 use native.Mathlib.Omega.{arith}
 use Rattle.laws.specs.Tests.{lt-or-ge}
 use Rattle.node.specs.Store.{nodesIn, parentAt}
-use Rattle.walk_order.specs.Walk.{walks, kidAbove}
-use Rattle.walk_order.specs.Below.{Above, above-low, Below, all-below, left-behind, nested}
-use Rattle.walk_order.specs.Child.{whole-below, child-behind}
+use Rattle.walk_order.specs.Walk.{kidAbove}
+use Rattle.walk_order.specs.Below.{Above, above-low, Below, parent-before, all-below, left-behind, nested}
 use Rattle.walk_order.specs.Kid.{LastKid, kid-last, kid-none}
 
 -- what stands below p ends before e
@@ -38,10 +36,8 @@ pub record Prior (ns : List ℕ) (p e c : ℕ) : Type 0 where
 pub span-root : (ns : List ℕ) → 0 < nodesIn ns → Span ns 0 (nodesIn ns)
 span-root ns h = record { behind = h; within = omega arith; inner = λ j a b. omega arith; left = λ l. absurd (omega arith) }
 
-module _ (limit : ℕ) (ns : List ℕ) (w : walks limit ns ≡ true) (p end : ℕ) (sp : Span ns p end) where
-  whole : Below ns 0 (nodesIn ns)
-  whole = whole-below limit ns w
-
+-- in a table in walk order
+module _ (ns : List ℕ) (whole : Below ns 0 (nodesIn ns)) (p end : ℕ) (sp : Span ns p end) where
   part : Below ns p end
   part = record { inside = sp .inner; follows = λ j a b. whole .follows j (omega arith) (omega (arith, sp .within)) }
 
@@ -54,7 +50,7 @@ module _ (limit : ℕ) (ns : List ℕ) (w : walks limit ns ≡ true) (p end : �
 
   -- every child of p stands in it
   pub span-child : (j : ℕ) → 0 < j → j < nodesIn ns → parentAt ns j ≡ p → (p < j) × (j < end)
-  span-child j a b e = (subst (λ (x : ℕ). x < j) e (child-behind limit ns w j a b), ⊎-elim (λ l. l) (λ l. absurd (late l)) (lt-or-ge j end))
+  span-child j a b e = (subst (λ (x : ℕ). x < j) e (parent-before ns 0 (nodesIn ns) whole j a b), ⊎-elim (λ l. l) (λ l. absurd (late l)) (lt-or-ge j end))
     where
       late : end ≤ j → ⊥
       late l = ⊎-elim
@@ -85,7 +81,14 @@ module _ (limit : ℕ) (ns : List ℕ) (w : walks limit ns ≡ true) (p end : �
           by m (inr k) = none j a b (omega (arith, low))
 
       left : e < nodesIn ns → parentAt ns e < c
-      left a = ⊎-elim (λ z. let g : parentAt ns e < p = subst (λ (x : ℕ). parentAt ns x < p) (sym z) (sp .left (omega arith)) in omega arith) (λ z. omega arith) (cut .is)
+      left a =
+          ⊎-elim
+          (λ z. let g : parentAt ns e < p = subst (λ (x : ℕ). parentAt ns x < p) (sym z) (sp .left (omega arith)) in omega arith)
+          (λ z. omega arith) (cut .is)
+
+  -- the climb from a node of it finds the last child that stands there or before
+  last-kid : (x : ℕ) → p < x → x < end → LastKid ns p x (kidAbove ns p x)
+  last-kid x l m = kid-last ns 0 (nodesIn ns) whole p (omega arith) x l (omega (arith, sp .within)) (span-below x (omega arith) m)
 
   -- THE CLAIM: the climb from the node before e leads to the last child before e
   pub prior : (e : ℕ) → Cut ns p end e → Prior ns p e (kidAbove ns p (e - 1))
@@ -96,7 +99,7 @@ module _ (limit : ℕ) (ns : List ℕ) (w : walks limit ns ≡ true) (p end : �
 
       by : (p < e - 1) ⊎ (e - 1 ≤ p) → Prior ns p e (kidAbove ns p (e - 1))
       by (inl l) =
-          let k : LastKid ns p (e - 1) (kidAbove ns p (e - 1)) = kid-last ns 0 (nodesIn ns) whole p (omega arith) (e - 1) l (omega (arith, inside)) (span-below (e - 1) (omega arith) (omega (arith, cut .within))) in
+          let k : LastKid ns p (e - 1) (kidAbove ns p (e - 1)) = last-kid (e - 1) l (omega (arith, cut .within)) in
           let low : kidAbove ns p (e - 1) < e = omega (arith, k .within) in
           record {
             behind = λ d. k .behind;
@@ -112,19 +115,21 @@ module _ (limit : ℕ) (ns : List ℕ) (w : walks limit ns ≡ true) (p end : �
             before = λ d. absurd (d z);
             child = λ d. absurd (d z);
             span = λ d. absurd (d z);
-            none = λ j r a b q. omega (arith, child-behind limit ns w j r (omega (arith, inside)));
+            none = λ j r a b q. omega (arith, parent-before ns 0 (nodesIn ns) whole j r (omega (arith, inside)));
           }
 
   -- a child that the last node stands below is the last child
   pub kid-is : (k : ℕ) → p < k → parentAt ns k ≡ p → Above ns k (end - 1) → k ≡ kidAbove ns p (end - 1)
   kid-is k h e a =
       let low : k ≤ end - 1 = above-low a in
-      let y : LastKid ns p (end - 1) (kidAbove ns p (end - 1)) = kid-last ns 0 (nodesIn ns) whole p (omega arith) (end - 1) (omega arith) (omega (arith, sp .within)) (span-below (end - 1) (omega arith) (omega arith)) in
-      by (kidAbove ns p (end - 1)) y low (lt-or-ge k (kidAbove ns p (end - 1))) (lt-or-ge (kidAbove ns p (end - 1)) k)
+      by (kidAbove ns p (end - 1)) (last-kid (end - 1) (omega arith) (omega arith)) low
+      (lt-or-ge k (kidAbove ns p (end - 1))) (lt-or-ge (kidAbove ns p (end - 1)) k)
     where
       by : (y : ℕ) → LastKid ns p (end - 1) y → k ≤ end - 1 → (k < y) ⊎ (y ≤ k) → (y < k) ⊎ (k ≤ y) → k ≡ y
       by y l low (inl m) n =
           let z : end - 1 ≡ y + (end - 1 - y) = omega (arith, l .within) in
-          absurd (left-behind ns 0 (nodesIn ns) whole k y (omega arith) m (omega (arith, l .child)) (end - 1 - y) (omega (arith, l .within, sp .within)) (subst (λ (x : ℕ). Above ns k x) z a))
+          absurd
+          (left-behind ns 0 (nodesIn ns) whole k y (omega arith) m (omega (arith, l .child)) (end - 1 - y) (omega (arith, l .within, sp .within))
+          (subst (λ (x : ℕ). Above ns k x) z a))
       by y l low (inr m) (inl n) = absurd (l .last k n low e)
       by y l low (inr m) (inr n) = omega arith

@@ -1,4 +1,5 @@
-// The tree of a table in walk order, from its end to its beginning: there the children of a node are listed backwards with no search through what stands below them.
+// The tree of a table in walk order, from its end to its beginning: there the children of a node are listed backwards with no search through what stands
+// below them.
 ghost use mathlib.Core.Bool.{true};
 ghost use mathlib.Core.Path.{_≡_};
 ghost use Prim.Native.Nat.{_+_, _≤_};
@@ -21,8 +22,8 @@ fn put_head(nodes: &[u8], names: &[u8], i: usize, out: &mut [u8], to: usize) -> 
     at
 }
 
-// Writes node me and, by calling itself, what is below it, at most so many levels deep, so that it ends at `to`, and answers where it begins. The tails of its runs are kept
-// in the lent stores, those of the folders below it behind them.
+// Writes node me and, by calling itself, what is below it, at most so many levels deep, so that it ends at `to`, and answers where it begins. The tails of
+// its runs are kept in the lent stores, those of the folders below it behind them.
 fn put_node(
     nodes: &[u8],
     names: &[u8],

@@ -1,5 +1,5 @@
-// The TREE extension, written from a lent node table: siblings in byte order of name. There is no heap. A table in walk order is written from its end, and of a folder's children
-// the last that is left is found among the tails of a few runs; elsewhere the next child is found by a pass over the table.
+// The TREE extension, written from a lent node table: siblings in byte order of name. There is no heap. A table in walk order is written from its end, and of
+// a folder's children the last that is left is found among the tails of a few runs; elsewhere the next child is found by a pass over the table.
 ghost use mathlib.Core.Path.{_≡_};
 ghost use mathlib.Core.List.{[], _∷_};
 ghost use Prim.Native.Nat.{_+_, _-_, _≤_, _<_};

@@ -1,6 +1,6 @@
-// The children of a node from the last to the first by name, in a table in walk order. As they stand they fall into runs of rising names: one where siblings stand in byte
-// order, and one for each length of name where they stand in git's own order. The last child that is left is then the last of the runs' tails; where there is no room for all
-// tails it is found among the children as they stand.
+// The children of a node from the last to the first by name, in a table in walk order. As they stand they fall into runs of rising names: one where siblings
+// stand in byte order, and one for each length of name where they stand in git's own order. The last child that is left is then the last of the runs' tails;
+// where there is no room for all tails it is found among the children as they stand.
 ghost use mathlib.Core.Bool.{true};
 ghost use mathlib.Core.Path.{_≡_};
 ghost use Prim.Native.Nat.{_-_, _≤_};
@@ -13,8 +13,8 @@ ghost use Rattle.tree_write.specs.Runs.{goesOn, lead, later, between, Gr
 // How many tails of runs are kept in all, by a folder and those that it stands in; each takes two words of the stack.
 pub const MOST_RUNS: usize = 2048;
 
-// How many runs there are. The last child left of each, or 0, is kept in a lent store, their tails, and beside it where what stands below that child ends. Not quick where
-// nothing is known of the tails.
+// How many runs there are. The last child left of each, or 0, is kept in a lent store, their tails, and beside it where what stands below that child ends.
+// Not quick where nothing is known of the tails.
 pub struct Runs {
     pub quick: bool,
     pub used: usize,
@@ -131,7 +131,8 @@ fn take(
     stops: &mut [usize],
 ) -> Kid
     requires { ⌜ (used ≤ length (now tails)) × (length (now stops) ≡ length (now tails)) ⌝ }
-    ensures { λ r. ⌜ Stepped (now (nodes .entry)) (now (names .entry)) p used (now (tails .entry)) (now (stops .entry)) (now (tails .exit)) (now (stops .exit)) r ⌝ }
+    ensures { λ r. ⌜ Stepped (now (nodes .entry)) (now (names .entry)) p used
+        (now (tails .entry)) (now (stops .entry)) (now (tails .exit)) (now (stops .exit)) r ⌝ }
 {
     let place = last_tail(nodes, names, used, &*tails);
     if place == used {

@@ -1,5 +1,5 @@
-// The last child of a node in a table in walk order. The way to it from the last node below is kept, one node a level, so that along a way down each last child is found
-// with no climb of its own. What is kept is only believed of the leaf that stands beside it.
+// The last child of a node in a table in walk order. The way to it from the last node below is kept, one node a level, so that along a way down each last
+// child is found with no climb of its own. What is kept is only believed of the leaf that stands beside it.
 ghost use mathlib.Core.Bool.{true};
 ghost use mathlib.Core.Path.{_≡_};
 ghost use Prim.Native.Nat.{_-_, _≤_, _<_};
@@ -17,8 +17,8 @@ pub struct Foot {
     pub place: usize,
 }
 
-// The highest node on the way from the leaf up to p that is kept, or the leaf. The search down the spine and the climb from the leaf go in step, so that it costs no more than
-// the shorter of the two.
+// The highest node on the way from the leaf up to p that is kept, or the leaf. The search down the spine and the climb from the leaf go in step, so that it
+// costs no more than the shorter of the two.
 fn find_foot(
     nodes: &[u8],
     p: usize,

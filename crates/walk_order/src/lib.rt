@@ -1,5 +1,5 @@
-// Node tables in walk order, as the reader stores them: what is below a node stands right behind it. There the climb by parents from a node leads to the child of a node above
-// that it stands below, so that children are listed with no search through what stands below them.
+// Node tables in walk order, as the reader stores them: what is below a node stands right behind it. There the climb by parents from a node leads to the child
+// of a node above that it stands below, so that children are listed with no search through what stands below them.
 ghost use mathlib.Core.Path.{_≡_};
 ghost use Prim.Native.Nat.{_≤_};
 ghost use Rattle.format.specs.Format.{depthLimit};

@@ -1,6 +1,6 @@
-// Node tables of each kind, checked, sized and written: siblings in byte order, in git's own order, on several levels too, and in no order; more runs of names than there are
-// tails kept; a table that is not in walk order; a chain of folders as deep as allowed, and one that is a folder deeper, which is not proper, and of which the upper folders
-// are sized and written all the same.
+// Node tables of each kind, checked, sized and written: siblings in byte order, in git's own order, on several levels too, and in no order; more runs of
+// names than there are tails kept; a table that is not in walk order; a chain of folders as deep as allowed, and one that is a folder deeper, which is not
+// proper, and of which the upper folders are sized and written all the same.
 use libc::STDOUT_FILENO;
 use node::Node;
 
@@ -71,8 +71,8 @@ fn git_order() {
     show_tree(b"git's order:", &nodes);
 }
 
-// c with q, pq and p below it, and p in that; ab with b, ab, b in one another; bc with p, q, ab below it, in p again q, op, and in q a. Below c there is no order, elsewhere the
-// shorter stands first.
+// c with q, pq and p below it, and p in that; ab with b, ab, b in one another; bc with p, q, ab below it, in p again q, op, and in q a. Below c there is no
+// order, elsewhere the shorter stands first.
 fn git_order_below() {
     let mut nodes = [0u8; 1224];
     put(&mut nodes, 0, 0, 0, 3, node::MINUS_ONE);
@@ -95,7 +95,8 @@ fn git_order_below() {
     show_tree(b"git's order on several levels:", &nodes);
 }
 
-// So many folders in the root, by turns b and a: each a but the last begins a run that ends with the b behind it, and together they take all the tails that are kept.
+// So many folders in the root, by turns b and a: each a but the last begins a run that ends with the b behind it, and together they take all the tails that
+// are kept.
 const BY_TURNS: usize = 4094;
 
 fn put_by_turns(nodes: &mut [u8]) {
@@ -108,8 +109,8 @@ fn put_by_turns(nodes: &mut [u8]) {
     }
 }
 
-// By turns b and a in the root, and in the last of them c, b and a with d below it, for whose runs no tail is left. Equal names go by their places, so this is no proper table;
-// it is written all the same. Shown are its size and the bytes where the last a ends and the first b begins.
+// By turns b and a in the root, and in the last of them c, b and a with d below it, for whose runs no tail is left. Equal names go by their places, so this
+// is no proper table; it is written all the same. Shown are its size and the bytes where the last a ends and the first b begins.
 fn many_runs() {
     let names = NAMES;
     let mut nodes = [0u8; 295128];

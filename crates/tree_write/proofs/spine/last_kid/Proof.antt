@@ -1,6 +1,7 @@
 -- `tree_write::spine::last_kid` meets its contract. Whatever was kept, a child of p that the leaf stands below is the last one. Assumes nothing.
 use mathlib.Core.Path.{sym, _∙_}
 use native.Mathlib.Omega.{arith}
+use Rattle.walk_order.specs.Child.{whole-below}
 use Rattle.walk_order.specs.Kid.{kid-none}
 use Rattle.tree_write.specs.Span.{kid-is}
 use borrow.Author.Needs.{needs}
@@ -29,7 +30,7 @@ same-length-2 : tie.Need-same-length-2
 same-length-2 c = search needs
 
 returns-2 : tie.Need-returns-2
-returns-2 c = (kid-is _ _ (c .before .before .before .before .before .before .before .before .before .before .before .before .before .before .before .before .before .pre .0 .0) _ _ (c .before .before .before .before .before .before .before .before .before .before .before .before .before .before .before .before .before .pre .0 .1) _ (c .if3 .taken) (sym (c .before .before .parent .ensures) ∙ c .before .if2 .taken) (c .before .before .before .before .before .before .before .climb .ensures .0), c .before .before .before .before .before .before .before .climb .ensures .1)
+returns-2 c = (kid-is _ (whole-below _ _ (c .before .before .before .before .before .before .before .before .before .before .before .before .before .before .before .before .before .pre .0 .0)) _ _ (c .before .before .before .before .before .before .before .before .before .before .before .before .before .before .before .before .before .pre .0 .1) _ (c .if3 .taken) (sym (c .before .before .parent .ensures) ∙ c .before .if2 .taken) (c .before .before .before .before .before .before .before .climb .ensures .0), c .before .before .before .before .before .before .before .climb .ensures .1)
 
 kid-above-requires : tie.Need-kid-above-requires
 kid-above-requires c κs = search needs
