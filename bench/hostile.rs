@@ -74,9 +74,12 @@ fn grown(
     }
 }
 
+/// What makes a file for a number of folders.
+type Tree = fn(usize) -> Vec<u8>;
+
 /// A row that compares the deepest of a kind of tree with as many folders in one.
-fn deeper(what: &'static str, input: &str, tree: fn(usize) -> Vec<u8>, make: fn(Vec<u8>) -> Run) -> Row {
-    let make: [Box<dyn Fn() -> Run>; 2] = [Box::new(move || make(by_bytes(MANY))), Box::new(move || make(tree(MANY)))];
+fn deeper(what: &'static str, input: &str, [flat, tree]: [Tree; 2], make: fn(Vec<u8>) -> Run) -> Row {
+    let make: [Box<dyn Fn() -> Run>; 2] = [Box::new(move || make(flat(MANY))), Box::new(move || make(tree(MANY)))];
     Row { what, input: format!("{input}, to depth 2"), make, n: MANY, limit: MOST_DEEPER, known: "" }
 }
 
@@ -234,9 +237,9 @@ fn all_extensions(file: Vec<u8>) -> Run {
 // ---- The rows
 
 /// A kind of tree: its words, how it is made, n, and n for the writer as it is called from C where that costs more.
-type Kind = (&'static str, fn(usize) -> Vec<u8>, usize, Option<usize>);
+type Kind = (&'static str, Tree, usize, Option<usize>);
 
-const TREES: [Kind; 12] = [
+const TREES: [Kind; 14] = [
     ("siblings by bytes", by_bytes, MANY, None),
     ("siblings in git's order", by_git, MANY, None),
     ("siblings in git's order, of 200 lengths", by_git_in_runs, MANY / 10, Some(SQUARE)),
@@ -249,6 +252,16 @@ const TREES: [Kind; 12] = [
     ("folders down to the deepest level", deepest, MANY, None),
     ("siblings at the deepest level", lowest, MANY, None),
     ("a comb", comb, MANY, None),
+    ("folders down to the deepest level, by git", deepest_by_git, MANY, None),
+    ("a comb, by git", comb_by_git, MANY, None),
+];
+
+/// Two of depth 2 and the deepest level that are compared.
+const DEEPEST: [(&str, [Tree; 2]); 4] = [
+    ("folders down to the deepest level", [by_bytes, deepest]),
+    ("a comb", [by_bytes, comb]),
+    ("folders down to the deepest level, by git", [by_git, deepest_by_git]),
+    ("a comb, by git", [by_git, comb_by_git]),
 ];
 
 fn trees() -> Vec<Row> {
@@ -259,10 +272,10 @@ fn trees() -> Vec<Row> {
         rows.push(grown("write", input, square.unwrap_or(n), known, move |n| write(tree(n))));
         rows.push(grown("the crate's write", input, n, "", move |n| rewrite(tree(n))));
     }
-    for (input, tree) in [("folders down to the deepest level", deepest as fn(usize) -> Vec<u8>), ("a comb", comb)] {
-        rows.push(deeper("read", input, tree, read));
-        rows.push(deeper("write", input, tree, write));
-        rows.push(deeper("the crate's write", input, tree, rewrite));
+    for (input, pair) in DEEPEST {
+        rows.push(deeper("read", input, pair, read));
+        rows.push(deeper("write", input, pair, write));
+        rows.push(deeper("the crate's write", input, pair, rewrite));
     }
     rows.push(grown("the crate's reading", "siblings shuffled", NO_ORDER, "", |n| from_bytes(shuffled(n))));
     rows.push(grown("the crate's check_tree", "a long name above many", MANY, "", |n| {

@@ -156,15 +156,24 @@ pub fn long_names(n: usize) -> Vec<u8> {
 }
 
 /// Folders below the root each of which has one in it, and so on down to the deepest level.
-pub fn deepest(n: usize) -> Vec<u8> {
+fn chains(n: usize, top: impl Fn(usize) -> String) -> Vec<u8> {
     let (chains, below) = (n / (LEVELS - 1), LEVELS - 2);
     let rest = [node(b"0000000", 1).repeat(below - 1), node(b"0000000", 0)].concat();
     let mut body = node(b"", chains);
     for i in 0..chains {
-        body.extend(node(format!("{i:07}").as_bytes(), 1));
+        body.extend(node(top(i).as_bytes(), 1));
         body.extend(&rest);
     }
     tree(&body)
+}
+
+pub fn deepest(n: usize) -> Vec<u8> {
+    chains(n, |i| format!("{i:07}"))
+}
+
+/// The same in git's own order.
+pub fn deepest_by_git(n: usize) -> Vec<u8> {
+    chains(n, |i| i.to_string())
 }
 
 /// One folder in another down to the last level but one, in which all others stand.
@@ -175,17 +184,25 @@ pub fn lowest(n: usize) -> Vec<u8> {
 }
 
 /// On each level folders with nothing in them before the one that has the next level in it, and as many behind it: a hundred, where n is 200 times the levels.
-pub fn comb(n: usize) -> Vec<u8> {
+fn comb_of(n: usize, before: fn(usize) -> String, middle: &[u8], behind: fn(usize) -> String) -> Vec<u8> {
     let leaves = n / LEVELS / 2;
-    let side = |mark: char| (0..leaves).flat_map(|i| node(format!("{mark}{i:06}").as_bytes(), 0)).collect::<Vec<u8>>();
-    let (before, behind) = (side('a'), side('z'));
+    let side = |name: fn(usize) -> String| (0..leaves).flat_map(|i| node(name(i).as_bytes(), 0)).collect::<Vec<u8>>();
     let mut body = node(b"", 2 * leaves + 1);
     for level in 2..=LEVELS {
-        body.extend(&before);
-        body.extend(node(b"m", if level < LEVELS { 2 * leaves + 1 } else { 0 }));
+        body.extend(side(before));
+        body.extend(node(middle, if level < LEVELS { 2 * leaves + 1 } else { 0 }));
     }
-    body.extend(behind.repeat(LEVELS - 1));
+    body.extend(side(behind).repeat(LEVELS - 1));
     tree(&body)
+}
+
+pub fn comb(n: usize) -> Vec<u8> {
+    comb_of(n, |i| format!("a{i:06}"), b"m", |i| format!("z{i:06}"))
+}
+
+/// The same in git's own order: what stands behind is longer, and comes first by bytes.
+pub fn comb_by_git(n: usize) -> Vec<u8> {
+    comb_of(n, |i| format!("z{i:05}"), b"mmmmmmm", |i| format!("a{i:07}"))
 }
 
 /// A folder whose name has five times n bytes above n others, and eight entries in the first of them.

@@ -102,10 +102,9 @@ void sparrowpivot_sha1(const uint8_t *bytes, size_t bytes_len, uint8_t out[SPARR
  * A node table is proper if it is not empty, node 0 alone has no parent, every other parent is an earlier node, subtree counts agree with the parents, counts are -1 to
  * 2^31 - 1, names of siblings differ, names lie in `names` and hold no NUL, and the depth is at most 64.
  * Which node tables are quick: those in which all that is below a node stands right behind it, as in a table that was read, and siblings stand in byte order of
- * name, or in git's own, shorter names first; the latter cost their nodes times their depth once, when they are filled in, and a folder with those that it stands
- * in has 4,096 lengths of name at most. A folder whose siblings stand otherwise costs the square of their number, or of the nodes below it when it is filled in, and
- * a table whose nodes do the square of the number of its nodes. As what is written is the same in any order, put a table that came from a stranger into byte order
- * first; the crate of host/ does.
+ * name, or in git's own, shorter names first, where a folder with those that it stands in has 2,048 lengths of name at most. A folder whose siblings stand otherwise
+ * costs the square of their number, or their number times the nodes below it when it is filled in, and a table whose nodes do the square of the number of its
+ * nodes. As what is written is the same in any order, put a table that came from a stranger into byte order first; the crate of host/ does.
  * 0: version; size. Or 12, 16, 15 or 14: the first in this order that applies. An output of 0 bytes asks for the size, by 14.
  */
 uint32_t sparrowpivot_write(const uint8_t *records, size_t records_len, const uint8_t *paths, size_t paths_len, const uint8_t *nodes, size_t nodes_len,

@@ -17,9 +17,6 @@ in-walk-order-settled κs a z z′ w w′ = settled (λ r. (r, w))
 pub walks-within-settled : Settles walk_order.walks_within.Kinds.ps walk_order.walks_within.Kinds.r walk_order.walks_within.Reads.Learnt
 walks-within-settled κs a z z′ w w′ = settled (λ r. (r, w))
 
-pub next-child-settled : Settles walk_order.next_child.Kinds.ps walk_order.next_child.Kinds.r walk_order.next_child.Reads.Learnt
-next-child-settled κs a z z′ w w′ = settled (λ r. (r, w))
-
 pub kid-above-settled : Settles walk_order.kid_above.Kinds.ps walk_order.kid_above.Kinds.r walk_order.kid_above.Reads.Learnt
 kid-above-settled κs a z z′ w w′ = settled (λ r. (r, w))
 

@@ -6,7 +6,7 @@ use native.Mathlib.Nat.{add-zero}
 use native.Mathlib.Numerals.{add-one}
 use native.Mathlib.Omega.{arith}
 use lib.ListN.{length, set, take, drop, length-append, length-drop, take-append-drop}
-use lib.Seq.{paste, append-snoc, set-split, length-take-le, take-at, drop-at, drop-drop, take-length}
+use lib.Seq.{paste, append-snoc, set-split, length-take-le, take-append-le, take-take, take-at, drop-at, drop-drop, take-length}
 
 -- d with the bytes xs in the place of those from `at` on
 unfoldable pub put : List ℕ → ℕ → List ℕ → List ℕ
@@ -44,6 +44,33 @@ put-put d xs ys at h =
         ∙ ap (λ (l : List ℕ). drop (length ys) l) (drop-at (take at d ++ xs) (drop (at + length xs) d) (at + length xs) (head-length d xs at h))
         ∙ drop-drop (length ys) (at + length xs) d
         ∙ ap (λ (k : ℕ). drop k d) both
+
+-- bytes put right before bytes that were put
+pub put-before : (d xs ys : List ℕ) (at : ℕ) → at + length xs ≤ length d → put (put d (at + length xs) ys) at xs ≡ put d at (xs ++ ys)
+unfolding put
+put-before d xs ys at h =
+    ap (λ (l : List ℕ). (l ++ xs) ++ drop (at + length xs) (put d (at + length xs) ys)) early
+    ∙ ap (λ (l : List ℕ). (take at d ++ xs) ++ l) late
+    ∙ sym (append-assoc (take at d ++ xs) ys (drop (at + length xs + length ys) d))
+    ∙ ap (λ (l : List ℕ). l ++ drop (at + length xs + length ys) d) (append-assoc (take at d) xs ys)
+    ∙ ap (λ (k : ℕ). (take at d ++ (xs ++ ys)) ++ drop k d) both
+  where
+    both : at + length xs + length ys ≡ at + length (xs ++ ys)
+    both = omega (arith, length-append xs ys)
+
+    long : length (take (at + length xs) d) ≡ at + length xs
+    long = length-take-le (at + length xs) d h
+
+    early : take at ((take (at + length xs) d ++ ys) ++ drop (at + length xs + length ys) d) ≡ take at d
+    early =
+        take-append-le at (take (at + length xs) d ++ ys) (drop (at + length xs + length ys) d) (omega (arith, long, length-append (take (at + length xs) d) ys))
+        ∙ take-append-le at (take (at + length xs) d) ys (omega (arith, long))
+        ∙ take-take at (at + length xs) d (omega arith)
+
+    late : drop (at + length xs) ((take (at + length xs) d ++ ys) ++ drop (at + length xs + length ys) d) ≡ ys ++ drop (at + length xs + length ys) d
+    late =
+        ap (λ (l : List ℕ). drop (at + length xs) l) (append-assoc (take (at + length xs) d) ys (drop (at + length xs + length ys) d))
+        ∙ drop-at (take (at + length xs) d) (ys ++ drop (at + length xs + length ys) d) (at + length xs) long
 
 -- a copy of as many elements as there are
 pub paste-put : (d xs : List ℕ) (at n : ℕ) → n ≡ length xs → paste d at xs n ≡ put d at xs

@@ -371,14 +371,14 @@ module _ (ns nm : List ℕ) (depth me : ℕ) where
   node-zero-put d at h = rw h (sym (put-none d at))
 
   module _ (deep : depth ≡ 0 → ⊥) where
-    node-cut : nodeBytes idSize ns nm depth me ≡ headBytes idSize ns nm me ++ each (nodeBytes idSize ns nm (depth - 1)) (kids ns nm me (length ns / 72) 0)
+    pub node-cut : nodeBytes idSize ns nm depth me ≡ headBytes idSize ns nm me ++ each (nodeBytes idSize ns nm (depth - 1)) (kids ns nm me (length ns / 72) 0)
     unfolding nodeBytes
     node-cut = ap (λ (k : ℕ). nodeBytes idSize ns nm k me) q
       where
         q : depth ≡ suc (depth - 1)
         q = let z : 0 < depth = pos-of-ne-zero deep in omega arith
 
-    node-long : length (nodeBytes idSize ns nm depth me) ≡ length (headBytes idSize ns nm me) + length (each (nodeBytes idSize ns nm (depth - 1)) (kids ns nm me (length ns / 72) 0))
+    pub node-long : length (nodeBytes idSize ns nm depth me) ≡ length (headBytes idSize ns nm me) + length (each (nodeBytes idSize ns nm (depth - 1)) (kids ns nm me (length ns / 72) 0))
     node-long = ap length node-cut ∙ length-append (headBytes idSize ns nm me) (each (nodeBytes idSize ns nm (depth - 1)) (kids ns nm me (length ns / 72) 0))
 
     pub node-head : (at m : ℕ) → at + length (nodeBytes idSize ns nm depth me) ≤ m → at + length (headBytes idSize ns nm me) ≤ m
@@ -519,6 +519,12 @@ fits tree k m size inside is h small = omega (arith, cap-below (length tree) (m 
 
 pub tree-fits : (ns nm : List ℕ) (k m size : ℕ) → k ≤ m → size ≡ cap (length (nodeBytes idSize ns nm depthLimit 0)) → size ≤ m - k → m < largest → k + length (nodeBytes idSize ns nm depthLimit 0) ≤ m
 tree-fits ns nm k m size inside is h small = fits (nodeBytes idSize ns nm depthLimit 0) k m size inside is h small
+
+-- where it ends
+pub tree-ends : (ns nm : List ℕ) (k m size to : ℕ) → k ≤ m → size ≡ cap (length (nodeBytes idSize ns nm depthLimit 0)) → size ≤ m - k → m < largest → to ≡ k + size → (to ≡ k + length (nodeBytes idSize ns nm depthLimit 0)) × (to ≤ m)
+tree-ends ns nm k m size to inside is h small e =
+    let room : k + length (nodeBytes idSize ns nm depthLimit 0) ≤ m = tree-fits ns nm k m size inside is h small in
+    (omega (arith, cap-fits (length (nodeBytes idSize ns nm depthLimit 0)) (omega arith)), omega arith)
 
 module _ (out tree : List ℕ) (k : ℕ) where
   pub tree-past : length out < k → out ≡ putFit out k tree

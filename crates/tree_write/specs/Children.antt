@@ -17,7 +17,7 @@ use Rattle.tree_write.specs.Order.{before, false-true, before-not, befor
 use Rattle.tree_write.specs.Tree.{kids, each}
 use Rattle.tree_write.specs.Kids.{Mem, here, there, Rising, done, more, not-mem, children, children-are, children-rise}
 
-mem-cases : {i x : ℕ} {l : List ℕ} → Mem i (x ∷ l) → (i ≡ x) ⊎ Mem i l
+pub mem-cases : {i x : ℕ} {l : List ℕ} → Mem i (x ∷ l) → (i ≡ x) ⊎ Mem i l
 mem-cases here = inl refl
 mem-cases (there m) = inr m
 

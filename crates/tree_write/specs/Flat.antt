@@ -14,13 +14,14 @@ use Rattle.laws.specs.Tests.{lt-or-ge, Less, less, not-less, less?}
 use Rattle.node.specs.Store.{nodesIn, parentAt}
 use Rattle.siblings.specs.Siblings.{isChild}
 use Rattle.walk_order.specs.Walk.{walks, kidAbove}
-use Rattle.walk_order.specs.Below.{Above, Below, left-behind, nested, parent-before}
+use Rattle.walk_order.specs.Below.{Above, Below, left-behind, parent-before}
 use Rattle.walk_order.specs.Child.{both, whole-below, child-behind}
 use Rattle.walk_order.specs.Kid.{LastKid, kid-last}
 use Rattle.walk_order.specs.Depth.{allIn, all-each, walksWithin, within-walks, within-climbs, Level, root, below, level-within}
 use Rattle.tree_write.specs.Order.{before, before-trans}
 use Rattle.tree_write.specs.Tree.{headBytes, kids, each, nodeBytes, treeBytes}
 use Rattle.tree_write.specs.Kids.{Mem, children, children-are}
+use Rattle.tree_write.specs.Span.{Span, span-child}
 use Rattle.tree_write.specs.Children.{passing, tableKids, passing-skip, passing-cut, sumOver, sum-same, each-length, each-same, kids-sum, kids-same}
 
 -- the heads of k nodes from j on, as they stand
@@ -56,13 +57,6 @@ unfoldable pub isFlat : ℕ → List ℕ → List ℕ → Bool
 isFlat limit ns nm = pick (isShallow limit ns) (siblingsRise ns nm) false
 
 -- ---- what stands below a node
-
--- what stands below p ends before e
-record Span (ns : List ℕ) (p e : ℕ) : Type 0 where
-  behind : p < e
-  within : e ≤ nodesIn ns
-  inner : (j : ℕ) → p < j → j < e → p ≤ parentAt ns j
-  left : e < nodesIn ns → parentAt ns e < p
 
 -- the first of k nodes from j on whose parent stands before p
 unfoldable endFrom : List ℕ → ℕ → ℕ → ℕ → ℕ
@@ -166,14 +160,10 @@ module _ (id : ℕ) (ns nm : List ℕ) (w : Below ns 0 (nodesIn ns)) where
       z = omega (arith, sp .within, up)
 
       early : (i : ℕ) → 1 ≤ i → i < 1 + p → isChild ns p i ≡ false
-      early i a b = ne-eqb (parentAt ns i) p (λ q. omega (arith, parent-before ns 0 (nodesIn ns) w i a (omega arith)))
+      early i a b = ne-eqb (parentAt ns i) p (λ q. omega (arith, span-child ns w p e sp i a (omega arith) q .0))
 
       late : (i : ℕ) → p + 1 + (e - (p + 1)) ≤ i → i < p + 1 + (e - (p + 1)) + (nodesIn ns - e) → isChild ns p i ≡ false
-      late i a b = ne-eqb (parentAt ns i) p (λ q. by q (lt-or-ge e i))
-        where
-          by : parentAt ns i ≡ p → (e < i) ⊎ (i ≤ e) → ⊥
-          by q (inl l) = nested ns 0 (nodesIn ns) w p e i (omega arith) up l (omega (arith, sp .within, up)) (sp .left (omega (arith, sp .within, up))) q
-          by q (inr l) = let same : e ≡ i = omega (arith, up) in omega (arith, subst (λ (j : ℕ). parentAt ns j < p) same (sp .left (omega (arith, sp .within, up))))
+      late i a b = ne-eqb (parentAt ns i) p (λ q. omega (arith, up, span-child ns w p e sp i (omega arith) (omega (arith, sp .within, up)) q .1))
 
       first : (p + 1 ≡ e) ⊎ (parentAt ns (p + 1) ≡ p)
       first = ⊎-elim (λ l. inr (omega (arith, sp .inner (p + 1) (omega arith) l, parent-before ns 0 (nodesIn ns) w (p + 1) (omega arith) (omega (arith, sp .within))))) (λ l. inl (omega (arith, up))) (lt-or-ge (p + 1) e)
@@ -269,7 +259,7 @@ module _ (limit : ℕ) (ns nm : List ℕ) (w : walks limit ns ≡ true) (rise : 
   all-rise : (x y : ℕ) → 0 < x → x < y → y < nodesIn ns → parentAt ns x ≡ parentAt ns y → before ns nm x y ≡ true
   all-rise x y a l m q = rises-by (y - x) (parentAt ns x) x y (omega arith) (child-behind limit ns w x a (omega arith)) l m refl (sym q)
 
-shallow-says : (limit : ℕ) (ns : List ℕ) → isShallow limit ns ≡ true → (0 < nodesIn ns) × (walksWithin limit ns ≡ true)
+pub shallow-says : (limit : ℕ) (ns : List ℕ) → isShallow limit ns ≡ true → (0 < nodesIn ns) × (walksWithin limit ns ≡ true)
 unfolding isShallow
 shallow-says limit ns t = let (a, b) = both (ltb 0 (nodesIn ns)) (walksWithin limit ns) t in (ltb-true 0 (nodesIn ns) a, b)
 

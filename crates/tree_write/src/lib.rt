@@ -1,5 +1,5 @@
-// The TREE extension, written from a lent node table: siblings in byte order of name. There is no heap, so the next child is the least one after the last, found
-// among the heads of a few runs where the table is in walk order, and by a pass over the table elsewhere.
+// The TREE extension, written from a lent node table: siblings in byte order of name. There is no heap. A table in walk order is written from its end, and of
+// a folder's children the last that is left is found among the tails of a few runs; elsewhere the next child is found by a pass over the table.
 ghost use mathlib.Core.Path.{_≡_};
 ghost use mathlib.Core.List.{[], _∷_};
 ghost use Prim.Native.Nat.{_+_, _-_, _≤_, _<_};
@@ -7,12 +7,13 @@ ghost use lib.ListN.{length};
 ghost use Rattle.laws.specs.Put.{put};
 ghost use Rattle.sums.specs.Cap.{cap};
 ghost use Rattle.format.specs.Format.{depthLimit, idSize};
-ghost use Rattle.walk_order.specs.Walk.{walks};
 ghost use Rattle.tree_write.specs.Order.{before};
 ghost use Rattle.tree_write.specs.Tree.{countBytes, frontBytes, numberBytes, idBytes, headBytes, after, ahead, better, nextKid, nodeBytes, treeBytes, putFit};
 
+mod back;
 mod flat;
 mod runs;
+mod spine;
 
 // Writes src at `at`, and answers where it ends.
 fn put_bytes(src: &[u8], out: &mut [u8], at: usize) -> usize
@@ -199,19 +200,9 @@ fn next_kid(nodes: &[u8], names: &[u8], parent: usize, last: usize) -> usize
     best
 }
 
-// Writes node me and, by calling itself, what is below it, at most so many levels deep. The heads of its runs are kept in the lent store, those of the folders below it behind them.
-fn put_node(
-    nodes: &[u8],
-    names: &[u8],
-    walk: bool,
-    me: usize,
-    out: &mut [u8],
-    at: usize,
-    depth: usize,
-    heads: &mut [usize],
-) -> usize
+// Writes node me and, by calling itself, what is below it, at most so many levels deep. Each child is found by a pass over the table, so this serves any table.
+fn put_node(nodes: &[u8], names: &[u8], me: usize, out: &mut [u8], at: usize, depth: usize) -> usize
     requires { ⌜ at + length (nodeBytes idSize (now nodes) (now names) depth me) ≤ length (now out) ⌝ }
-    requires { ⌜ walk ≡ walks depthLimit (now nodes) ⌝ }
     ensures { λ r. ⌜ r ≡ at + length (nodeBytes idSize (now (nodes .entry)) (now (names .entry)) depth me) ⌝ }
     ensures { λ _. ⌜ now (out .exit) ≡ put (now (out .entry)) at (nodeBytes idSize (now (nodes .entry)) (now (names .entry)) depth me) ⌝ }
 {
@@ -220,17 +211,14 @@ fn put_node(
     }
     let below = depth - 1;
     let mut pos = put_head(nodes, names, me, out, at);
-    let runs = runs::begin(nodes, names, walk, me, heads);
-    let used = runs.used;
     let mut last: usize = 0;
     let mut left = node::nodes_in(nodes);
     while 0 < left {
-        let kid = runs::next(nodes, names, me, last, runs, &*heads);
+        let kid = next_kid(nodes, names, me, last);
         if kid == 0 {
             return pos;
         }
-        pos = put_node(nodes, names, walk, kid, out, pos, below, &mut heads[used..]);
-        runs::step(nodes, names, me, used, heads, kid);
+        pos = put_node(nodes, names, kid, out, pos, below);
         last = kid;
         left -= 1;
     }
@@ -271,23 +259,16 @@ pub fn tree_size(nodes: &[u8], names: &[u8]) -> usize
     node_size(nodes, names, 0, format::DEPTH_LIMIT)
 }
 
-// Writes the tree of a table at `at`, where it fits, in the order of names.
-fn put_merged(nodes: &[u8], names: &[u8], out: &mut [u8], at: usize)
-    requires { ⌜ at + length (treeBytes idSize depthLimit (now nodes) (now names)) ≤ length (now out) ⌝ }
+// Writes the tree of a table at `at`, where it fits and ends at `to`, in the order of names.
+fn put_merged(nodes: &[u8], names: &[u8], out: &mut [u8], at: usize, to: usize)
+    requires { ⌜ (to ≡ at + length (treeBytes idSize depthLimit (now nodes) (now names))) × (to ≤ length (now out)) ⌝ }
     ensures { λ _. ⌜ now (out .exit) ≡ put (now (out .entry)) at (treeBytes idSize depthLimit (now (nodes .entry)) (now (names .entry))) ⌝ }
 {
-    let walk = walk_order::in_walk_order(nodes);
-    let mut heads = [0usize; runs::MOST_HEADS];
-    put_node(
-        nodes,
-        names,
-        walk,
-        0,
-        out,
-        at,
-        format::DEPTH_LIMIT,
-        &mut heads,
-    );
+    if flat::is_shallow(nodes) {
+        back::put_tree(nodes, names, out, to);
+        return;
+    }
+    put_node(nodes, names, 0, out, at, format::DEPTH_LIMIT);
 }
 
 // Writes the tree of a table at `at`; nothing where it does not fit.
@@ -306,5 +287,6 @@ pub fn put_tree(nodes: &[u8], names: &[u8], out: &mut [u8], at: usize)
         flat::put_heads(nodes, names, out, at);
         return;
     }
-    put_merged(nodes, names, out, at);
+    let to = at + size;
+    put_merged(nodes, names, out, at, to);
 }

@@ -1,151 +1,206 @@
-// The children of a node in byte order of name. In a table in walk order they fall, as they stand, into runs of rising names: one where siblings stand in byte order, and
-// one for each length of name where they stand in git's own order. The next child is then the least of the runs' heads; elsewhere it is found by a pass over the table.
+// The children of a node from the last to the first by name, in a table in walk order. As they stand they fall into runs of rising names: one where siblings
+// stand in byte order, and one for each length of name where they stand in git's own order. The last child that is left is then the last of the runs' tails;
+// where there is no room for all tails it is found among the children as they stand.
 ghost use mathlib.Core.Bool.{true};
 ghost use mathlib.Core.Path.{_≡_};
-ghost use Prim.Native.Nat.{_≤_};
+ghost use Prim.Native.Nat.{_-_, _≤_};
 ghost use lib.ListN.{length};
 ghost use Rattle.format.specs.Format.{depthLimit};
-ghost use Rattle.walk_order.specs.Walk.{walks};
-ghost use Rattle.tree_write.specs.Tree.{nextKid};
-ghost use Rattle.tree_write.specs.Runs.{goesOn, follow, firstOf, Least, Moved, Stepped, Ready};
+ghost use Rattle.walk_order.specs.Walk.{walks, kidAbove};
+ghost use Rattle.tree_write.specs.Span.{Span};
+ghost use Rattle.tree_write.specs.Runs.{goesOn, lead, later, between, Greatest, Found, Ready, Stepped, Taken};
 
-// How many heads of runs are kept in all, by a folder and those that it stands in; the children of a folder for whose runs no room is left are found by passes over the table.
-pub const MOST_HEADS: usize = 4096;
+// How many tails of runs are kept in all, by a folder and those that it stands in; each takes two words of the stack.
+pub const MOST_RUNS: usize = 2048;
 
-// How many runs there are. The first child left of each, or 0, is kept in a lent store, their heads. Not quick where nothing is known of the heads.
+// How many runs there are. The last child left of each, or 0, is kept in a lent store, their tails, and beside it where what stands below that child ends.
+// Not quick where nothing is known of the tails.
 pub struct Runs {
     pub quick: bool,
     pub used: usize,
 }
 
-// Whether child y goes on the run of child x; at p itself there is no run yet.
-fn goes_on(nodes: &[u8], names: &[u8], p: usize, x: usize, y: usize) -> bool
-    ensures { λ r. ⌜ r ≡ goesOn (now (nodes .entry)) (now (names .entry)) p x y ⌝ }
-{
-    if x == p {
-        return false;
-    }
-    super::comes_before(nodes, names, x, y)
+// A child, or 0, and where what stands below it ends.
+pub struct Kid {
+    pub node: usize,
+    pub end: usize,
 }
 
-// The runs of the children of p.
-fn runs_of(nodes: &[u8], names: &[u8], p: usize, heads: &mut [usize]) -> Runs
-    requires { ⌜ walks depthLimit (now nodes) ≡ true ⌝ }
-    ensures { λ r. ⌜ Ready (now (nodes .entry)) (now (names .entry)) p 0 r (now (heads .exit)) ⌝ }
+// Whether child c goes on the run that begins with e, the child behind it; at the end there is no run yet.
+fn goes_on(nodes: &[u8], names: &[u8], c: usize, e: usize, end: usize) -> bool
+    ensures { λ r. ⌜ r ≡ goesOn (now (nodes .entry)) (now (names .entry)) c e end ⌝ }
+{
+    if e == end {
+        return false;
+    }
+    super::comes_before(nodes, names, c, e)
+}
+
+// The runs of the children of p, the last of which is given. Where they are too many none is kept, so that all room is left to the folders below.
+pub fn begin(
+    nodes: &[u8],
+    names: &[u8],
+    p: usize,
+    end: usize,
+    last: usize,
+    tails: &mut [usize],
+    stops: &mut [usize],
+) -> Runs
+    requires { ⌜ (walks depthLimit (now nodes) ≡ true) × Span (now nodes) p end ⌝ }
+    requires { ⌜ (last ≡ kidAbove (now nodes) p (end - 1)) × (length (now stops) ≡ length (now tails)) ⌝ }
+    ensures { λ r. ⌜ Ready (now (nodes .entry)) (now (names .entry)) p end 0 r (now (tails .exit)) (now (stops .exit)) ⌝ }
 {
     let mut used: usize = 0;
-    let mut x = p;
-    let mut y = walk_order::next_child(nodes, p, p);
-    while y != 0 {
-        if goes_on(nodes, names, p, x, y) {
-            x = y;
-            y = walk_order::next_child(nodes, p, x);
+    let mut e = end;
+    let mut c = last;
+    while c != 0 {
+        if goes_on(nodes, names, c, e, end) {
+            e = c;
+            c = walk_order::kid_above(nodes, p, e - 1);
         } else {
-            if heads.len() <= used {
-                return Runs { quick: false, used };
+            if tails.len() <= used {
+                return Runs {
+                    quick: false,
+                    used: 0,
+                };
             }
-            heads[used] = y;
+            tails[used] = c;
+            stops[used] = e;
             used += 1;
-            x = y;
-            y = walk_order::next_child(nodes, p, x);
+            e = c;
+            c = walk_order::kid_above(nodes, p, e - 1);
         }
     }
     Runs { quick: true, used }
 }
 
-// What is known of the children of p before the first of them is written.
-pub fn begin(nodes: &[u8], names: &[u8], walk: bool, p: usize, heads: &mut [usize]) -> Runs
-    requires { ⌜ walk ≡ walks depthLimit (now nodes) ⌝ }
-    ensures { λ r. ⌜ Ready (now (nodes .entry)) (now (names .entry)) p 0 r (now (heads .exit)) ⌝ }
+// Whether a tail comes after the last one so far; 0 is none.
+fn comes_later(nodes: &[u8], names: &[u8], kid: usize, tail: usize) -> bool
+    ensures { λ r. ⌜ r ≡ later (now (nodes .entry)) (now (names .entry)) kid tail ⌝ }
 {
-    if walk {
-        return runs_of(nodes, names, p, heads);
+    if tail == 0 {
+        return false;
     }
-    Runs {
-        quick: false,
-        used: 0,
-    }
+    super::comes_after(nodes, names, kid, tail)
 }
 
-// The first of a head and the best one so far; 0 is none.
-fn first_of(nodes: &[u8], names: &[u8], head: usize, best: usize) -> usize
-    ensures { λ r. ⌜ r ≡ firstOf (now (nodes .entry)) (now (names .entry)) head best ⌝ }
+// The place of the tail that comes last, or `used` where none is left.
+fn last_tail(nodes: &[u8], names: &[u8], used: usize, tails: &[usize]) -> usize
+    requires { ⌜ used ≤ length (now tails) ⌝ }
+    ensures { λ r. ⌜ Greatest (now (nodes .entry)) (now (names .entry)) used (now (tails .entry)) r ⌝ }
 {
-    if head == 0 {
-        return best;
-    }
-    let ahead = super::comes_ahead(nodes, names, head, best);
-    if ahead {
-        return head;
-    }
-    best
-}
-
-// The least head, or 0.
-fn least(nodes: &[u8], names: &[u8], used: usize, heads: &[usize]) -> usize
-    requires { ⌜ used ≤ length (now heads) ⌝ }
-    ensures { λ r. ⌜ Least (now (nodes .entry)) (now (names .entry)) used (now (heads .entry)) r ⌝ }
-{
-    let mut best: usize = 0;
+    let mut kid: usize = 0;
+    let mut place = used;
     let mut i: usize = 0;
     while i < used {
-        let head = heads[i];
-        best = first_of(nodes, names, head, best);
-        i += 1;
+        let tail = tails[i];
+        if comes_later(nodes, names, kid, tail) {
+            kid = tail;
+            place = i;
+            i += 1;
+        } else {
+            i += 1;
+        }
     }
-    best
+    place
 }
 
-// The first child of p after the last one, or 0.
-pub fn next(nodes: &[u8], names: &[u8], p: usize, last: usize, runs: Runs, heads: &[usize]) -> usize
-    requires { ⌜ Ready (now nodes) (now names) p last runs (now heads) ⌝ }
-    ensures { λ r. ⌜ r ≡ nextKid (now (nodes .entry)) (now (names .entry)) p last ⌝ }
+// The child that comes before x in its run, or 0.
+fn lead(nodes: &[u8], names: &[u8], p: usize, x: usize) -> usize
+    requires { ⌜ 1 ≤ x ⌝ }
+    ensures { λ r. ⌜ r ≡ lead (now (nodes .entry)) (now (names .entry)) p x ⌝ }
 {
-    let quick = runs.quick;
-    if quick {
-        let used = runs.used;
-        return least(nodes, names, used, heads);
-    }
-    super::next_kid(nodes, names, p, last)
-}
-
-// The child that comes after x in its run, or 0.
-fn follow(nodes: &[u8], names: &[u8], p: usize, x: usize) -> usize
-    ensures { λ r. ⌜ r ≡ follow (now (nodes .entry)) (now (names .entry)) p x ⌝ }
-{
-    let y = walk_order::next_child(nodes, p, x);
+    let y = walk_order::kid_above(nodes, p, x - 1);
     if y == 0 {
         return 0;
     }
-    let rises = super::comes_before(nodes, names, x, y);
+    let rises = super::comes_before(nodes, names, y, x);
     if rises {
         return y;
     }
     0
 }
 
-// Puts `next` for the head `kid`.
-fn move_on(heads: &mut [usize], used: usize, kid: usize, next: usize)
-    requires { ⌜ used ≤ length (now heads) ⌝ }
-    ensures { λ _. ⌜ Moved kid next used (now (heads .entry)) (now (heads .exit)) ⌝ }
+// The last of the tails, whose run steps back to the child before it.
+fn take(
+    nodes: &[u8],
+    names: &[u8],
+    p: usize,
+    used: usize,
+    tails: &mut [usize],
+    stops: &mut [usize],
+) -> Kid
+    requires { ⌜ (used ≤ length (now tails)) × (length (now stops) ≡ length (now tails)) ⌝ }
+    ensures { λ r. ⌜ Stepped (now (nodes .entry)) (now (names .entry)) p used
+        (now (tails .entry)) (now (stops .entry)) (now (tails .exit)) (now (stops .exit)) r ⌝ }
 {
-    let mut i: usize = 0;
-    while i < used {
-        let head = heads[i];
-        if head == kid {
-            heads[i] = next;
-            i += 1;
+    let place = last_tail(nodes, names, used, &*tails);
+    if place == used {
+        return Kid { node: 0, end: 0 };
+    }
+    let node = tails[place];
+    let end = stops[place];
+    let before = lead(nodes, names, p, node);
+    tails[place] = before;
+    stops[place] = node;
+    Kid { node, end }
+}
+
+// Whether child c comes before the bound and after the last child so far that does; 0 is none.
+fn comes_between(nodes: &[u8], names: &[u8], kid: usize, c: usize, bound: usize) -> bool
+    ensures { λ r. ⌜ r ≡ between (now (nodes .entry)) (now (names .entry)) kid c bound ⌝ }
+{
+    let ahead = super::comes_ahead(nodes, names, c, bound);
+    if ahead {
+        return super::comes_after(nodes, names, kid, c);
+    }
+    false
+}
+
+// The last child of p that comes before the bound, found among all its children.
+fn listed(nodes: &[u8], names: &[u8], p: usize, end: usize, bound: usize) -> Kid
+    requires { ⌜ (walks depthLimit (now nodes) ≡ true) × Span (now nodes) p end ⌝ }
+    ensures { λ r. ⌜ Found (now (nodes .entry)) (now (names .entry)) p bound r ⌝ }
+{
+    let mut kid: usize = 0;
+    let mut stop: usize = 0;
+    let mut e = end;
+    let mut c = walk_order::kid_above(nodes, p, e - 1);
+    while c != 0 {
+        if comes_between(nodes, names, kid, c, bound) {
+            kid = c;
+            stop = e;
+            e = c;
+            c = walk_order::kid_above(nodes, p, e - 1);
         } else {
-            i += 1;
+            e = c;
+            c = walk_order::kid_above(nodes, p, e - 1);
         }
+    }
+    Kid {
+        node: kid,
+        end: stop,
     }
 }
 
-// Moves the heads on past the child `kid`.
-pub fn step(nodes: &[u8], names: &[u8], p: usize, used: usize, heads: &mut [usize], kid: usize)
-    requires { ⌜ used ≤ length (now heads) ⌝ }
-    ensures { λ _. ⌜ Stepped (now (nodes .entry)) (now (names .entry)) p kid used (now (heads .entry)) (now (heads .exit)) ⌝ }
+// The last child of p that comes before the bound, the child taken before it, or 0 where there is none. The tails are then those of the children before it.
+pub fn next(
+    nodes: &[u8],
+    names: &[u8],
+    p: usize,
+    end: usize,
+    bound: usize,
+    runs: Runs,
+    tails: &mut [usize],
+    stops: &mut [usize],
+) -> Kid
+    requires { ⌜ Ready (now nodes) (now names) p end bound runs (now tails) (now stops) ⌝ }
+    ensures { λ r. ⌜ Taken (now (nodes .entry)) (now (names .entry)) p end bound runs (now (tails .exit)) (now (stops .exit)) r ⌝ }
 {
-    let next = follow(nodes, names, p, kid);
-    move_on(heads, used, kid, next);
+    let quick = runs.quick;
+    if quick {
+        let used = runs.used;
+        return take(nodes, names, p, used, tails, stops);
+    }
+    listed(nodes, names, p, end, bound)
 }

@@ -4,12 +4,12 @@ use mathlib.Core.Path.{_≡_, refl, sym, ap, _∙_}
 use mathlib.Core.List.{List}
 use Prim.Native.Nat.{ℕ, zero, suc, _+_, _-_, _≤_, _<_}
 use native.Mathlib.Omega.{arith}
-use lib.Dec.{ltb, leb, eqb}
+use lib.Dec.{leb, eqb}
 use borrow.Author.Tests.{lt-ltb, le-ltb, le-leb, lt-leb, eq-eqb, ne-eqb}
 use Rattle.laws.specs.Pick.{pick}
 use Rattle.format.specs.Format.{depthLimit}
 use Rattle.node.specs.Store.{nodesIn, parentAt}
-use Rattle.walk_order.specs.Walk.{climbsTo, walksFrom, walks, childFrom, nextChild, kidFrom, kidAbove}
+use Rattle.walk_order.specs.Walk.{climbsTo, walksFrom, walks, kidFrom, kidAbove}
 use Rattle.walk_order.specs.Kid.{kid-enough}
 
 -- ---- a climb
@@ -57,36 +57,6 @@ module _ (ns : List ℕ) (n j : ℕ) (r : Bool) (inv : walksFrom depthLimit ns (
     pub walk-not : t ≡ false → false ≡ r
     walk-not k = sym (ap (λ (x : Bool). pick x (walksFrom depthLimit ns (n - (j + 1)) (j + 1)) false) k) ∙ cut
 
--- ---- the search
-
-module _ (ns : List ℕ) (p x n : ℕ) (e : n ≡ nodesIn ns) where
-  pub child-past : n ≤ x → 0 ≡ nextChild ns p x
-  unfolding nextChild childFrom
-  child-past h = let z : nodesIn ns - (x + 1) ≡ 0 = omega arith in sym (rw z)
-
-  pub child-start : childFrom ns p (n - (x + 1)) (x + 1) ≡ nextChild ns p x
-  unfolding nextChild
-  child-start = rw e
-
-module _ (ns : List ℕ) (p n j r : ℕ) (inv : childFrom ns p (n - j) j ≡ r) where
-  pub child-end : n ≤ j → 0 ≡ r
-  unfolding childFrom
-  child-end h = let z : n - j ≡ 0 = omega arith in rw z at inv
-
-  module _ (h : j < n) (q : ℕ) (e : q ≡ parentAt ns j) where
-    cut-child : pick (eqb q p) j (pick (ltb q p) 0 (childFrom ns p (n - (j + 1)) (j + 1))) ≡ r
-    unfolding childFrom
-    cut-child = let z : n - j ≡ suc (n - (j + 1)) = omega arith in sym (rw (z, ← e)) ∙ inv
-
-    pub child-here : q ≡ p → j ≡ r
-    child-here k = sym (rw (eq-eqb q p k)) ∙ cut-child
-
-    pub child-over : (q ≡ p → ⊥) → q < p → 0 ≡ r
-    child-over k l = sym (rw (ne-eqb q p k, lt-ltb q p l)) ∙ cut-child
-
-    pub child-more : (q ≡ p → ⊥) → p ≤ q → childFrom ns p (n - (j + 1)) (j + 1) ≡ r
-    child-more k l = sym (rw (ne-eqb q p k, le-ltb q p l)) ∙ cut-child
-
 -- ---- the climb to a child
 
 pub kid-start : (ns : List ℕ) (p x : ℕ) → kidFrom ns p x x ≡ kidAbove ns p x
@@ -116,4 +86,4 @@ module _ (ns : List ℕ) (p x r : ℕ) (inv : kidFrom ns p x x ≡ r) where
     pub kid-up : (q ≡ p → ⊥) → q < x → kidFrom ns p q q ≡ r
     kid-up k l = kid-enough ns p q (x - 1) q (omega arith) (omega arith) ∙ sym (rw (ne-eqb q p k, lt-leb x q l)) ∙ cut-kid
 
-pub ruleset laws = (climb-none, climb-there, climb-up, walk-start, walk-end, walk-more, walk-not, child-past, child-start, child-end, child-here, child-over, child-more, kid-start, kid-end, kid-here, kid-lost, kid-up)
+pub ruleset laws = (climb-none, climb-there, climb-up, walk-start, walk-end, walk-more, walk-not, kid-start, kid-end, kid-here, kid-lost, kid-up)

@@ -1,6 +1,5 @@
 -- A node table in walk order (01, Extensions: "Nodes go to a lent store in file order"): the parent of each node but the first is the node before it, or is
--- reached from there by parents. And two ways to a child, which in such a table need not pass over the whole of it: the search for the next child, and the climb from
--- a node to the child that it stands below. Assumes nothing.
+-- reached from there by parents. And the climb from a node to the child that it stands below. Assumes nothing.
 use mathlib.Core.Bool.{Bool, true, false}
 use mathlib.Core.List.{List}
 use Prim.Native.Nat.{ℕ, zero, suc, _+_, _-_}
@@ -20,15 +19,6 @@ walksFrom limit ns (suc k) j = pick (climbsTo ns limit (j - 1) (parentAt ns j)) 
 
 unfoldable pub walks : ℕ → List ℕ → Bool
 walks limit ns = walksFrom limit ns (nodesIn ns - 1) 1
-
--- the first child of p among k nodes from j on, or 0; a node whose parent stands before p ends the search
-unfoldable pub childFrom : List ℕ → ℕ → ℕ → ℕ → ℕ
-childFrom ns p zero j = 0
-childFrom ns p (suc k) j = pick (eqb (parentAt ns j) p) j (pick (ltb (parentAt ns j) p) 0 (childFrom ns p k (j + 1)))
-
--- the next child of p behind node x, or 0
-unfoldable pub nextChild : List ℕ → ℕ → ℕ → ℕ
-nextChild ns p x = childFrom ns p (nodesIn ns - (x + 1)) (x + 1)
 
 -- the child of p that x is or stands below, by a climb over at most k nodes; 0 where the climb comes to p or before it, or to a node whose parent does not stand
 -- before it

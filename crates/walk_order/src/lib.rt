@@ -1,9 +1,9 @@
-// Node tables in walk order, as the reader stores them: what is below a node stands right behind it. There a node's children are found among the nodes behind it, and
-// the search ends with the last of them; and from a node the climb by parents leads to the child of a node above that it stands below.
+// Node tables in walk order, as the reader stores them: what is below a node stands right behind it. There the climb by parents from a node leads to the child
+// of a node above that it stands below, so that children are listed with no search through what stands below them.
 ghost use mathlib.Core.Path.{_≡_};
 ghost use Prim.Native.Nat.{_≤_};
 ghost use Rattle.format.specs.Format.{depthLimit};
-ghost use Rattle.walk_order.specs.Walk.{climbsTo, walks, nextChild, kidAbove};
+ghost use Rattle.walk_order.specs.Walk.{climbsTo, walks, kidAbove};
 ghost use Rattle.walk_order.specs.Depth.{walksWithin, Level, Climbed};
 
 // Whether `to` is `from`, or is reached from there by parents.
@@ -81,28 +81,6 @@ pub fn walks_within(nodes: &[u8]) -> bool
         j += 1;
     }
     true
-}
-
-// The next child of p behind node x, or 0: the search ends at a node whose parent stands before p, for in walk order no child of p comes after it.
-pub fn next_child(nodes: &[u8], p: usize, x: usize) -> usize
-    ensures { λ r. ⌜ r ≡ nextChild (now (nodes .entry)) p x ⌝ }
-{
-    let n = node::nodes_in(nodes);
-    if n <= x {
-        return 0;
-    }
-    let mut j = x + 1;
-    while j < n {
-        let q = node::parent(nodes, j);
-        if q == p as u64 {
-            return j;
-        }
-        if q < p as u64 {
-            return 0;
-        }
-        j += 1;
-    }
-    0
 }
 
 // The child of p that x is or stands below, or 0. In walk order this is the last child of p at x or before: the climb from the node before a child leads to the child

@@ -1,5 +1,6 @@
-// Node tables of each kind, checked, sized and written: siblings in byte order, in git's own order and in no order; a table that is not in walk order; a chain of folders as
-// deep as allowed, and one that is a folder deeper, which is not proper, and of which the upper folders are sized and written all the same.
+// Node tables of each kind, checked, sized and written: siblings in byte order, in git's own order, on several levels too, and in no order; more runs of
+// names than there are tails kept; a table that is not in walk order; a chain of folders as deep as allowed, and one that is a folder deeper, which is not
+// proper, and of which the upper folders are sized and written all the same.
 use libc::STDOUT_FILENO;
 use node::Node;
 
@@ -70,6 +71,65 @@ fn git_order() {
     show_tree(b"git's order:", &nodes);
 }
 
+// c with q, pq and p below it, and p in that; ab with b, ab, b in one another; bc with p, q, ab below it, in p again q, op, and in q a. Below c there is no
+// order, elsewhere the shorter stands first.
+fn git_order_below() {
+    let mut nodes = [0u8; 1224];
+    put(&mut nodes, 0, 0, 0, 3, node::MINUS_ONE);
+    put(&mut nodes, 1, 2, 3, 3, 0);
+    put(&mut nodes, 2, 16, 17, 0, 1);
+    put(&mut nodes, 3, 15, 17, 0, 1);
+    put(&mut nodes, 4, 15, 16, 1, 1);
+    put(&mut nodes, 5, 15, 16, 0, 4);
+    put(&mut nodes, 6, 0, 2, 1, 0);
+    put(&mut nodes, 7, 1, 2, 1, 6);
+    put(&mut nodes, 8, 0, 2, 1, 7);
+    put(&mut nodes, 9, 1, 2, 0, 8);
+    put(&mut nodes, 10, 1, 3, 3, 0);
+    put(&mut nodes, 11, 15, 16, 2, 10);
+    put(&mut nodes, 12, 16, 17, 0, 11);
+    put(&mut nodes, 13, 14, 16, 0, 11);
+    put(&mut nodes, 14, 16, 17, 1, 10);
+    put(&mut nodes, 15, 0, 1, 0, 14);
+    put(&mut nodes, 16, 0, 2, 0, 10);
+    show_tree(b"git's order on several levels:", &nodes);
+}
+
+// So many folders in the root, by turns b and a: each a but the last begins a run that ends with the b behind it, and together they take all the tails that
+// are kept.
+const BY_TURNS: usize = 4094;
+
+fn put_by_turns(nodes: &mut [u8]) {
+    put(nodes, 0, 0, 0, BY_TURNS as u64, node::MINUS_ONE);
+    let mut i: usize = 1;
+    while i < BY_TURNS {
+        put(nodes, i, 1, 2, 0, 0);
+        put(nodes, i + 1, 0, 1, 0, 0);
+        i += 2;
+    }
+}
+
+// By turns b and a in the root, and in the last of them c, b and a with d below it, for whose runs no tail is left. Equal names go by their places, so this
+// is no proper table; it is written all the same. Shown are its size and the bytes where the last a ends and the first b begins.
+fn many_runs() {
+    let names = NAMES;
+    let mut nodes = [0u8; 295128];
+    let mut out = [255u8; 28800];
+    put_by_turns(&mut nodes);
+    put(&mut nodes, BY_TURNS, 0, 1, 3, 0);
+    put(&mut nodes, BY_TURNS + 1, 2, 3, 0, BY_TURNS as u64);
+    put(&mut nodes, BY_TURNS + 2, 1, 2, 0, BY_TURNS as u64);
+    put(&mut nodes, BY_TURNS + 3, 0, 1, 1, BY_TURNS as u64);
+    put(&mut nodes, BY_TURNS + 4, 3, 4, 0, BY_TURNS as u64 + 3);
+    let size = tree_write::tree_size(&nodes, &names);
+    tree_write::put_tree(&nodes, &names, &mut out, 0);
+    io::write_all(STDOUT_FILENO, b"more runs than tails: ");
+    io::print_decimal(STDOUT_FILENO, size as u64);
+    io::write_all(STDOUT_FILENO, b"\n");
+    show_hex(&out[14324..14387], 63);
+    io::write_all(STDOUT_FILENO, b"\n");
+}
+
 // bc, b with c below it, ab; and the same with bc once more for ab.
 fn no_order() {
     let mut nodes = [0u8; 360];
@@ -122,6 +182,8 @@ fn too_deep() {
 fn main() {
     byte_order();
     git_order();
+    git_order_below();
+    many_runs();
     no_order();
     no_walk_order();
     deepest();

@@ -1,6 +1,7 @@
 -- `tree_write::put_tree` meets its contract. Assumes nothing.
+use mathlib.Core.Path.{refl}
 use native.Mathlib.Omega.{arith}
-use Rattle.tree_write.proofs.Laws.{tree-laws, tree-fits, tree-done}
+use Rattle.tree_write.proofs.Laws.{tree-laws, tree-fits, tree-ends, tree-done}
 use Rattle.tree_write.proofs.Heads.{flat-room, flat-put}
 use borrow.Author.Needs.{needs}
 use Rattle.tree_write.proofs.put_tree.Statement.{statement}
@@ -31,8 +32,12 @@ returns-3 : tie.Need-returns-3
 returns-3 c =
     tree-done _ _ _ (c .before .before .before .before .before .before .before .before .if1 .left) _ (c .before .before .before .before .before .before .before .tree-size .ensures) (omega (arith, c .before .before .before .before .before .before .before .before)) (c .before .before .before .before .before .before .if2 .left) _ (flat-put _ _ _ (c .before .before .before .before .before .is-flat .ensures) (c .before .before .before .before .if3 .taken) _ _ _ (c .before .before .put-heads .ensures))
 
+add-to : tie.Need-add-to
+add-to c = search (tree-laws, needs)
+
 put-merged-requires : tie.Need-put-merged-requires
-put-merged-requires c κs = tree-fits _ _ _ _ _ (c .before .before .before .before .before .if1 .left) (c .before .before .before .before .tree-size .ensures) (c .before .before .before .if2 .left) (omega arith)
+put-merged-requires c κs =
+    tree-ends _ _ _ _ _ _ (c .before .before .before .before .before .if1 .left) (c .before .before .before .before .tree-size .ensures) (c .before .before .before .if2 .left) (omega arith) refl
 
 same-length-2 : tie.Need-same-length-2
 same-length-2 c = search (tree-laws, needs)
@@ -53,6 +58,7 @@ put-tree-spec =
     put-heads-requires
     same-length
     returns-3
+    add-to
     put-merged-requires
     same-length-2
     returns-4)

@@ -8,7 +8,7 @@ returns : tie.Need-returns
 returns c = search (runs-laws, needs)
 
 comes-before-requires : tie.Need-comes-before-requires
-comes-before-requires c κs = search (runs-laws, needs)
+comes-before-requires c κs = search needs
 
 returns-2 : tie.Need-returns-2
 returns-2 c = search (runs-laws, needs)
