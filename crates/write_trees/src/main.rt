@@ -35,7 +35,7 @@ fn put(nodes: &mut [u8], i: usize, start: usize, stop: usize, subtrees: u64, par
 // What the table is, whether it is proper, how many bytes its tree has, and the tree with a byte behind it, which stays as it was.
 fn show_tree(kind: &[u8], nodes: &[u8]) {
     let names = NAMES;
-    let mut out = [255u8; 512];
+    let mut out = [255u8; 3584];
     io::write_all(STDOUT_FILENO, kind);
     if proper::is_proper(nodes, &names) {
         io::write_all(STDOUT_FILENO, b" proper ");
@@ -108,14 +108,14 @@ fn chain(nodes: &mut [u8], levels: usize) {
 }
 
 fn deepest() {
-    let mut nodes = [0u8; 4608];
-    chain(&mut nodes, 64);
+    let mut nodes = [0u8; 36864];
+    chain(&mut nodes, 512);
     show_tree(b"as deep as allowed:", &nodes);
 }
 
 fn too_deep() {
-    let mut nodes = [0u8; 4680];
-    chain(&mut nodes, 65);
+    let mut nodes = [0u8; 36936];
+    chain(&mut nodes, 513);
     show_tree(b"a folder too deep:", &nodes);
 }
 
