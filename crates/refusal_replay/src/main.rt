@@ -171,12 +171,8 @@ fn show_deep_file(file: &[u8], n: usize) {
     show_read(file, &mut records, &mut paths, &mut nodes[..ns]);
 }
 
-// Reads a file into stores of so many bytes; where these are more than three nodes, the tests lend all records and paths.
+// Reads a file into stores of so many bytes.
 fn show_file(file: &[u8], r: usize, p: usize, n: usize) {
-    if NODES < n {
-        show_deep_file(file, n);
-        return;
-    }
     let mut records = [LENT; RECORDS];
     let mut paths = [LENT; PATHS];
     let mut nodes = [LENT; NODES];
@@ -186,7 +182,7 @@ fn show_file(file: &[u8], r: usize, p: usize, n: usize) {
     show_read(file, &mut records[..rs], &mut paths[..ps], &mut nodes[..ns]);
 }
 
-// Shows a file by its name.
+// Shows a file by its name. Where more than three nodes are lent, all records and paths are too.
 fn show(name: &[u8], r: usize, p: usize, n: usize) {
     text(b"== ");
     text(name);
@@ -199,7 +195,11 @@ fn show(name: &[u8], r: usize, p: usize, n: usize) {
     let mut file = io::buffer();
     let size = io::read_full(fd, &mut file);
     libc::close(fd);
-    show_file(&file[..size], r, p, n);
+    if NODES < n {
+        show_deep_file(&file[..size], n);
+    } else {
+        show_file(&file[..size], r, p, n);
+    }
 }
 
 // Rooms too small by one, and as small as will do.

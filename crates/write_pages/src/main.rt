@@ -11,9 +11,6 @@ use write::Options;
 // Names of the nodes, and their ids: "a" at 0, "b" at 1, a name with NUL from 19 to 22.
 const NAMES: [u8; 22] = *b"abcdefghijklmnopqrst\0x";
 
-// The bytes of 513 nodes, one more than a tree may be deep.
-const DEEP_NODES: usize = 36936;
-
 fn show_hex(s: &[u8]) {
     let mut i: usize = 0;
     while i < s.len() {
@@ -136,71 +133,6 @@ fn improper_page() {
     write_tree(b"D11, NUL in a name: ", &nodes);
 }
 
-// How many nodes are read back.
-fn read_back_nodes(file: &[u8]) {
-    let mut nodes = [0u8; DEEP_NODES];
-    let mut none = [0u8; 0];
-    let mut nothing = [0u8; 0];
-    let a = file::read(file, &mut none, &mut nothing, &mut nodes);
-    if let Got::Read {
-        version: _,
-        sparse: _,
-        tree: _,
-        records: _,
-        path_bytes: _,
-        nodes: used,
-    } = a {
-        io::write_all(STDOUT_FILENO, b"nodes read back");
-        show_number(used as u64);
-        io::write_all(STDOUT_FILENO, b"\n");
-    }
-}
-
-// The answer to a table of folders in one another, so many in all, and how many nodes of what was written are read back.
-fn write_deep(nodes: &[u8], levels: usize) {
-    io::write_all(STDOUT_FILENO, b"levels");
-    show_number(levels as u64);
-    io::write_all(STDOUT_FILENO, b": ");
-    let names = NAMES;
-    let none = [0u8; 0];
-    let mut out = [255u8; 4096];
-    let a = write::write_to(&none, &none, nodes, &names, only_tree(true), &mut out);
-    show_answer(a);
-    if let Answer::Done { version: _, size } = a {
-        if size <= out.len() {
-            read_back_nodes(&out[..size]);
-        }
-    }
-}
-
-// The first `levels` nodes, of which the last has no folder in it.
-fn write_levels(nodes: &mut [u8], levels: usize) {
-    if levels < 2 {
-        return;
-    }
-    let last = levels - 1;
-    let above = levels - 2;
-    put(nodes, last, 0, 1, node::MINUS_ONE, 0, above as u64);
-    if levels <= nodes.len() / node::NODE_SIZE {
-        write_deep(&nodes[..levels * node::NODE_SIZE], levels);
-    }
-    put(nodes, last, 0, 1, node::MINUS_ONE, 1, above as u64);
-}
-
-// D11: a folder in each folder, 511, 512 and 513 levels; the last is refused.
-fn deep_page() {
-    let mut nodes = [0u8; DEEP_NODES];
-    put(&mut nodes, 0, 0, 0, node::MINUS_ONE, 1, node::MINUS_ONE);
-    let mut i: usize = 1;
-    while i < 513 {
-        put(&mut nodes, i, 0, 1, node::MINUS_ONE, 1, i as u64 - 1);
-        i += 1;
-    }
-    write_levels(&mut nodes, 511);
-    write_levels(&mut nodes, 512);
-    write_levels(&mut nodes, 513);
-}
-
 // The bytes of an entry without its path: a zero id, mode 100644.
 fn plain_entry() -> [u8; 60] {
     let mut e = [0u8; 60];
@@ -275,6 +207,5 @@ fn main() {
     tree_page();
     order_page();
     improper_page();
-    deep_page();
     long_page();
 }
