@@ -5,7 +5,7 @@ pub use crate::declarations::{NODE_SIZE as NODE, RECORD_SIZE as RECORD};
 
 const TRAILER: usize = 20;
 const HEADER: usize = 12;
-const DEPTH: usize = 512;
+pub const DEPTH: usize = 512;
 const MODE_BITS: u32 = 0o160755;
 
 #[derive(Clone, Copy, PartialEq, Eq, Debug, PartialOrd, Ord)]
