@@ -2,7 +2,7 @@
 use crate::declarations::*;
 
 /// The deepest level of a tree that is read; the root's is 1.
-pub const LEVELS: usize = 64;
+pub const LEVELS: usize = 512;
 
 /// The bytes of a long name, and of what the paths of version 4 have in common.
 const LONG: usize = 4000;

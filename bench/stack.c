@@ -1,6 +1,6 @@
 /*
  * How many bytes of stack each exported function takes, measured: every call runs on a stack of its own that was filled with one byte, and what is no longer that byte was used. A call of an
- * empty function with the same arguments is taken off, so that what is left is the function's own frames and those below it. The inputs drive the deepest paths: trees of 64 levels, the most
+ * empty function with the same arguments is taken off, so that what is left is the function's own frames and those below it. The inputs drive the deepest paths: trees of 512 levels, the most
  * that is read and written, with siblings in no order at the lowest level, counts of ten digits, entries of versions 2 and 4, a trailer that is hashed, all extensions.
  * Prints a line for each function: its name, the bytes, and by which input. Exits 1 if an input is not answered as it should be.
  */
@@ -12,13 +12,13 @@
 #include <string.h>
 #include <ucontext.h>
 
-#define LEVELS 64
+#define LEVELS 512
 #define RECORD SPARROWPIVOT_RECORD_SIZE
 #define NODE SPARROWPIVOT_NODE_SIZE
 
 /* ---- Inputs, and what calls answer */
 
-static uint8_t file[1 << 16], records[64 * RECORD], paths[1 << 16], nodes[256 * NODE], out[1 << 16], id[SPARROWPIVOT_ID_SIZE];
+static uint8_t file[1 << 16], records[64 * RECORD], paths[1 << 16], nodes[(LEVELS + 8) * NODE], out[1 << 16], id[SPARROWPIVOT_ID_SIZE];
 static size_t file_len, records_len, paths_len, nodes_len, index_arg;
 static uint32_t stage, options;
 static uint64_t values[SPARROWPIVOT_VALUES], answer;
@@ -221,9 +221,9 @@ int main(void)
     uint32_t version;
     size_t i;
     for (version = 2; version <= 4; version++) {
-        const char *input = version == 4 ? "version 4, a tree of 64 levels" : "a tree of 64 levels";
+        const char *input = version == 4 ? "version 4, a tree of 512 levels" : "a tree of 512 levels";
         make(version, LEVELS + 1);
-        measure("read", "a tree of 65 levels", SPARROWPIVOT_TOO_DEEP);
+        measure("read", "a tree of 513 levels", SPARROWPIVOT_TOO_DEEP);
         make(version, LEVELS);
         measure("ieot_count", input, 0);
         measure("ieot_pair", input, 0);

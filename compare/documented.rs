@@ -25,7 +25,7 @@ pub fn all() -> Vec<(&'static str, Case, Option<Row>)> {
     let z = zeros(20);
     let file = |parts: &[&[u8]]| Case::File([parts.concat(), z.clone()].concat());
     let hex = unhex;
-    let deep = [b"\0-1 1\n".repeat(64), b"\0-1 0\n".to_vec()].concat();
+    let deep = [b"\0-1 1\n".repeat(512), b"\0-1 0\n".to_vec()].concat();
     let record =
         |mode: u32, path: Vec<u8>| Entry { fields: [0, 0, 0, 0, 0, 0, mode, 0, 0, 0], id: [0; 20], flags: 0, path };
     let table = |entries: Vec<Entry>, tree: Option<Vec<u8>>| Table { entries, word: "all", sparse: false, tree };
@@ -62,7 +62,7 @@ pub fn all() -> Vec<(&'static str, Case, Option<Row>)> {
         ("D9", file(&[&header(2, 0), &extension(b"TREE", b"\0-1 2\nb\0-1 0\na\0-1 0\n")]), Some(Row::D9)),
         // the Rust's decoder sorts siblings, so its writer cannot be given them in another order
         ("D10", Case::Write(table(vec![], Some(b"\0-1 2\nb\0-1 0\na\0-1 0\n".to_vec()))), None),
-        ("D11, depth 65", Case::Write(table(vec![], Some(deep))), Some(Row::D11)),
+        ("D11, depth 513", Case::Write(table(vec![], Some(deep))), Some(Row::D11)),
         ("D12", Case::Write(long.clone()), None),
         ("D12, read back", Case::File(writing::ours(&long.lent(), long.asked()).unwrap().1), Some(Row::D12)),
         ("D13", Case::Write(table(vec![record(u32::MAX, b"a".to_vec())], None)), None),

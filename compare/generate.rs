@@ -189,7 +189,7 @@ fn node(r: &mut Rng, out: &mut Vec<u8>, name: &[u8], depth: usize, odd: bool) {
 pub fn tree(r: &mut Rng, odd: bool) -> Vec<u8> {
     let mut out = vec![];
     if r.one_in(25) {
-        let depth = r.pick(&[2, 60, 63, 64, 65, 66, 120]);
+        let depth = r.pick(&[2, 64, 65, 500, 511, 512, 513, 514, 700]);
         for i in 0..depth {
             out.extend(if i + 1 < depth { b"\0-1 1\n" } else { b"\0-1 0\n" });
         }

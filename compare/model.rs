@@ -5,7 +5,7 @@ pub use crate::declarations::{NODE_SIZE as NODE, RECORD_SIZE as RECORD};
 
 const TRAILER: usize = 20;
 const HEADER: usize = 12;
-const DEPTH: usize = 64;
+pub const DEPTH: usize = 512;
 const MODE_BITS: u32 = 0o160755;
 
 #[derive(Clone, Copy, PartialEq, Eq, Debug, PartialOrd, Ord)]
@@ -35,7 +35,7 @@ pub const ROWS: [(Row, &str); 14] = [
     (Row::D5, "D5   an extension's header right before the trailer, swallowed"),
     (Row::D6, "D6   a trailer that is not the hash"),
     (Row::D7, "D7   stray bytes, or an extension cut short"),
-    (Row::D8, "D8   depth 65"),
+    (Row::D8, "D8   depth 513"),
     (Row::D9, "D9   order of the nodes"),
     (Row::D11, "D11  a node table that is not proper, by its depth"),
     (Row::D12, "D12  a written file with a path of 4095 bytes or more, read back"),

@@ -107,7 +107,7 @@ impl Judge {
     fn write_classes(&mut self, t: &Table, rule: &Written) {
         match rule {
             Ok((version, _)) => self.class(if *version == 3 { "written in version 3" } else { "written in version 2" }),
-            Err(_) => self.class("refused 16: a tree deeper than 64"),
+            Err(_) => self.class("refused 16: a tree deeper than 512"),
         }
         let nodes = t.nodes().unwrap_or_default();
         if t.asked().tree && rule.is_ok() && !nodes.is_empty() {

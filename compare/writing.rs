@@ -133,7 +133,7 @@ fn path_of(l: &Lent, k: usize) -> Option<&[u8]> {
 
 /// What the library must answer.
 pub fn ours(l: &Lent, a: Asked) -> Written {
-    write(l, a, 64)
+    write(l, a, model::DEPTH)
 }
 
 /// What the Rust answers: it knows no limit of depth (D11).

@@ -48,7 +48,7 @@ enum sparrowpivot_refusal {
     SPARROWPIVOT_NOT_FILLED = 7,     /* extensions do not fill their space; carries the place in the file */
     SPARROWPIVOT_MANDATORY = 8,      /* an extension that begins with no letter A to Z, and is no empty "sdir"; carries its signature, big-endian */
     /* 9 and 10 leave all entries, and every byte of the node store is 0. */
-    SPARROWPIVOT_TOO_DEEP = 9,       /* the tree is deeper than 64 levels */
+    SPARROWPIVOT_TOO_DEEP = 9,       /* the tree is deeper than 512 levels */
     SPARROWPIVOT_NO_NODE_ROOM = 10,  /* the tree needs one more node than there is room for */
     /* Lookup and order check, and 12 of writing too. They write no store. */
     SPARROWPIVOT_NO_STAGE = 11,      /* a stage above 3 is looked for */
@@ -100,7 +100,7 @@ void sparrowpivot_sha1(const uint8_t *bytes, size_t bytes_len, uint8_t out[SPARR
  * (REMOVE) are left out, and their paths are not looked at. `names` holds the names of the nodes: for a table that was read, that is the file; `nodes` and
  * `names` are looked at only where TREE is written. Siblings are written in byte order of name.
  * A node table is proper if it is not empty, node 0 alone has no parent, every other parent is an earlier node, subtree counts agree with the parents, counts are -1 to
- * 2^31 - 1, names of siblings differ, names lie in `names` and hold no NUL, and the depth is at most 64.
+ * 2^31 - 1, names of siblings differ, names lie in `names` and hold no NUL, and the depth is at most 512.
  * Which node tables are quick: those in which all that is below a node stands right behind it, as in a table that was read, and siblings stand in byte order of
  * name, or in git's own, shorter names first, where a folder with those that it stands in has 2,048 lengths of name at most. A folder whose siblings stand otherwise
  * costs the square of their number, or their number times the nodes below it when it is filled in, and a table whose nodes do the square of the number of its

@@ -418,11 +418,11 @@ static void test_refusals(void)
     header(&t, 2, 1);
     entry(&t, 0, 0100644, 1, 0, "a");
     tree.n = 0;
-    for (k = 1; k <= 65; k++)
-        node(&tree, k == 1 ? "" : "d", k == 65 ? "-1 0" : "-1 1", -1);
+    for (k = 1; k <= 513; k++)
+        node(&tree, k == 1 ? "" : "d", k == 513 ? "-1 0" : "-1 1", -1);
     extension(&t, "TREE", &tree);
     trailer(&t);
-    refused("refusal 9", &t, RECORD, 1, 65 * NODE + 5, SPARROWPIVOT_TOO_DEEP, 0, RECORD, 1, 1);
+    refused("refusal 9", &t, RECORD, 1, 513 * NODE + 5, SPARROWPIVOT_TOO_DEEP, 0, RECORD, 1, 1);
 
     small(&t);
     refused("refusal 10", &t, 2 * RECORD, 4, 3 * NODE - 1, SPARROWPIVOT_NO_NODE_ROOM, 0, 2 * RECORD, 4, 1);
@@ -631,6 +631,41 @@ static void test_write(void)
 }
 
 /* 4096 times a path of 2^20 bytes is more than a file may hold; one time less is not. */
+/* A folder in each folder, so many levels of them. */
+static void deep(struct text *t, unsigned levels)
+{
+    static struct text tree;
+    unsigned k;
+    header(t, 2, 0);
+    tree.n = 0;
+    for (k = 1; k <= levels; k++)
+        node(&tree, k == 1 ? "" : "d", k == levels ? "-1 0" : "-1 1", -1);
+    extension(t, "TREE", &tree);
+    trailer(t);
+}
+
+/* 511 and 512 levels are read and written back, 513 refused. That a node table of 513 is refused with 16, compare/run shows, which knows what a node looks like. */
+static void test_depth(void)
+{
+    static struct text t;
+    struct tables all;
+    uint32_t options = SPARROWPIVOT_WRITE_TREE_GIVEN | SPARROWPIVOT_WRITE_TREE | SPARROWPIVOT_WRITE_UNHASHED;
+    uint32_t levels;
+    for (levels = 511; levels <= 512; levels++) {
+        deep(&t, levels);
+        all = tables_of(&t, 0, 0, levels);
+        write_into("levels", &all, options, t.n, &t, 2, 0, 0);
+        end_tables("levels", &all);
+    }
+    group("511 and 512 levels, read and written");
+
+    deep(&t, 513);
+    refused("513 levels", &t, 0, 0, 513 * NODE, SPARROWPIVOT_TOO_DEEP, 0, 0, 0, 1);
+    refused("513 levels, room for 512", &t, 0, 0, 512 * NODE, SPARROWPIVOT_TOO_DEEP, 0, 0, 0, 1);
+    refused("513 levels, room for 511", &t, 0, 0, 512 * NODE - 1, SPARROWPIVOT_NO_NODE_ROOM, 0, 0, 0, 1);
+    group("513 levels, refused");
+}
+
 static void test_too_large(void)
 {
     const size_t path = 1 << 20, n = 4096, size = 12 + 62 + path + 2 + ID;
@@ -870,6 +905,7 @@ static void every(void)
     test_refusals();
     test_entries();
     test_write();
+    test_depth();
     test_too_large();
     test_extensions();
     test_sha1();

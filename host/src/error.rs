@@ -46,7 +46,7 @@ pub enum Refusal {
         /// Its four bytes, of any value.
         signature: [u8; 4],
     },
-    /// 9: the tree is deeper than 64 levels.
+    /// 9: the tree is deeper than 512 levels.
     TooDeep,
     /// 10: room is missing for a node of the tree. An [`Index`](crate::Index) makes more, so it never gives this.
     NoNodeRoom,
@@ -160,7 +160,7 @@ impl fmt::Display for Refusal {
             Refusal::NoEntryRoom { entry } => write!(f, "there is no room for entry {entry} (counted from 0)"),
             Refusal::NotFilled { place } => write!(f, "the extensions do not fill their space, from byte {place} on"),
             Refusal::Mandatory { signature } => mandatory(f, *signature),
-            Refusal::TooDeep => f.write_str("the tree is deeper than 64 levels"),
+            Refusal::TooDeep => f.write_str("the tree is deeper than 512 levels"),
             Refusal::NoNodeRoom => f.write_str("there is no room for the next node of the tree"),
             Refusal::NoStage => f.write_str("there is no stage above 3"),
             Refusal::PathOutside { record } => {

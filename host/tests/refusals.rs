@@ -1,7 +1,7 @@
 //! Every refusal in words, and the files that call for it.
 mod common;
 use common::{entry, entry4, extension, file, over};
-use sparrowpivot::{Error, Index, Refusal, Stage};
+use sparrowpivot::{Error, Index, Refusal, Stage, WriteOptions};
 
 /// All refusals with what they carry and say.
 const ALL: [(Refusal, Option<u64>, &str); 17] = [
@@ -21,7 +21,7 @@ const ALL: [(Refusal, Option<u64>, &str); 17] = [
         Some(1818848875),
         "refused 8: the extension \"link\" (1818848875) must be understood, and is not",
     ),
-    (Refusal::TooDeep, None, "refused 9: the tree is deeper than 64 levels"),
+    (Refusal::TooDeep, None, "refused 9: the tree is deeper than 512 levels"),
     (Refusal::NoNodeRoom, None, "refused 10: there is no room for the next node of the tree"),
     (Refusal::NoStage, None, "refused 11: there is no stage above 3"),
     (
@@ -86,8 +86,13 @@ fn files_that_cannot_be_read() {
         &file(2, 0, &[&extension(b"a\xff\n\"", b"")]),
         "refused 8: the extension \"a\\xff\\n\\\"\" (1644104226) must be understood, and is not",
     );
-    refused(&file(2, 0, &[&extension(b"TREE", &deep(65))]), words(9));
-    assert_eq!(Index::from_bytes(file(2, 0, &[&extension(b"TREE", &deep(64))])).unwrap().tree().unwrap().len(), 64);
+    refused(&file(2, 0, &[&extension(b"TREE", &deep(513))]), words(9));
+    for levels in 511..=512 {
+        let bytes = file(2, 0, &[&extension(b"TREE", &deep(levels))]);
+        let index = Index::from_bytes(bytes.clone()).unwrap();
+        assert_eq!(index.tree().unwrap().len(), levels);
+        assert_eq!(index.write(WriteOptions { zero_trailer: true, ..WriteOptions::default() }).unwrap(), bytes);
+    }
 }
 
 /// An extension whose first byte is none of A to Z must be understood, and its signature is told so that it can be read.

@@ -43,6 +43,16 @@ fn tree_page(page: &str, root: Tree) {
     println!("{page}: {} {back}", hex(&file));
 }
 
+/// A folder in each folder, so many in all.
+fn deep_page(levels: usize) {
+    let chain = (1..levels).fold(node(b"a", None, vec![]), |below, _| node(b"a", None, vec![below]));
+    let mut state = State::new(Sha1);
+    state.set_tree(Some(Tree { name: b""[..].into(), ..chain }));
+    let file = written(&state);
+    let back = if read(&file).unwrap().tree().is_some() { "a tree is read back" } else { "no tree is read back" };
+    println!("D11, levels {levels}: {} bytes, {back}", file.len());
+}
+
 fn push(state: &mut State, mode: u32, path: &[u8]) {
     state.dangerously_push_entry(
         entry::Stat::default(),
@@ -117,6 +127,8 @@ fn main() {
     tree_page("D11, count 2^32 - 1", node(b"", Some(u32::MAX), vec![leaf(b"a"), leaf(b"b")]));
     tree_page("D11, two children a", node(b"", Some(4), vec![leaf(b"a"), leaf(b"a")]));
     tree_page("D11, NUL in a name", node(b"", Some(4), vec![leaf(b"a"), leaf(b"t\0x")]));
+
+    (511..=513).for_each(deep_page);
 
     let mut state = State::new(Sha1);
     for (len, mode) in [(4095, 0o100644), (4096, u32::MAX)] {

@@ -75,7 +75,7 @@ module _ (kind : Kind) where
     pub extensions : Extensions c es
     pub no-last : NoneSigned TREE es
 
-  -- the premise on the tree, of the walk alone: no node should begin at depth 65, and none after as many heads as nodes are lent
+  -- the premise on the tree, of the walk alone: no node should begin deeper than the limit, and none after as many heads as nodes are lent
   abbrev pub TreeFits : List ℕ → List ℕ → Type 0
   TreeFits s ns = (place : ℕ) (body : List ℕ) → LastTREE s place body → KeepsWithinDepth (kind .id) body depthLimit × HasRoom (kind .id) body (lent ns)
 

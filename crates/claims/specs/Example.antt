@@ -1,5 +1,5 @@
 -- That the premises of demand 3 can be met: the smallest index file, and what the claims say of it. That they matter is shown where each arises: `claims_entries` (a store one byte short gives
--- 6) and `claims_tree` (a tree of 65 levels gives 9, a node too few 10). Assumes nothing.
+-- 6) and `claims_tree` (a tree of a level too many gives 9, a node too few 10). Assumes nothing.
 use Prim.Native.Nat.{ℕ}
 use mathlib.Core.Path.{_≡_, refl, sym, ap, _∙_}
 use mathlib.Core.List.{List, [], _∷_, _++_}

@@ -1,4 +1,5 @@
--- The premises can be met, and matter: a chain of 64 nodes is read into room for 64, room for one less gives 10, and a chain of 65 gives 9. Assumes nothing.
+-- The premises can be met, and matter: under every limit a chain of as many nodes is read into room for as many, room for one less gives 10,
+-- and a chain of one more gives 9. Assumes nothing.
 use Prim.Native.Nat.{ℕ, zero, suc, _+_, _-_, _*_, _^_, _≤_, _<_}
 use mathlib.Core.Path.{_≡_, refl, sym, subst}
 use mathlib.Core.List.{List, [], _∷_, _++_, append-nil}
@@ -6,7 +7,6 @@ use native.Mathlib.Omega.{arith}
 use lib.Dec.{lit≤}
 use lib.ListN.{length}
 use lib.Seq.{take-length}
-use Rattle.format.specs.Format.{depthLimit}
 use Rattle.tree.specs.declared.TreeAnswer.the-variants.{Tree as IsTree, TooDeep, NoRoom}
 use Rattle.tree.specs.Tree.{readTree}
 use Rattle.grammar.specs.Number.{Digit, Digits, last-digit, invalid, minus}
@@ -60,17 +60,33 @@ whole l = take-length l
 chain-there : (k : ℕ) → Node 20 0 (part (chain k) 0 (length (chain k))) (chainAt 0 k)
 chain-there k = subst (λ (b : List ℕ). Node 20 0 b (chainAt 0 k)) (sym (whole (chain k))) (chain-spelled 0 k)
 
-module _ (ns : List ℕ) (small : Addressable ns) where
+-- a chain is as long as its heads
+chain-length : (k : ℕ) → length (chain k) ≡ suc k * 7
+chain-length zero = refl
+chain-length (suc k) = let e = chain-length k in omega arith
+
+-- the limit has k levels below the first; a chain of one more can be addressed
+module _ (k : ℕ) (short : suc (suc k) * 7 < 2 ^ 64) (ns : List ℕ) (small : Addressable ns) where
   -- both premises hold, and the chain is read
-  pub sixty-four-are-read : lent ns ≡ 64 → readTree 20 depthLimit (chain 63) 0 (length (chain 63)) ns ≡ (IsTree 64, filled ns (treeBytes (chainAt 0 63)))
-  sixty-four-are-read room =
-      stores-are-the-meaning 20 (lit≤ tt) depthLimit (chain 63) 0 (length (chain 63)) ns (record { ahead = omega arith; inside = omega arith }) (omega arith) small
-      (depth-within 20 _ 0 (chainAt 0 63) (chain-there 63) depthLimit .1 (omega arith)) (nodes-within 20 _ 0 (chainAt 0 63) (chain-there 63) (lent ns) .1 (omega arith)) (chainAt 0 63) (chain-there 63)
+  pub deepest-is-read : lent ns ≡ suc k → readTree 20 (suc k) (chain k) 0 (length (chain k)) ns ≡ (IsTree (suc k), filled ns (treeBytes (chainAt 0 k)))
+  deepest-is-read room =
+      let e = chain-length k in
+      let d = chain-depth 0 k in
+      let m = chain-nodes 0 k in
+      subst (λ (n : ℕ). readTree 20 (suc k) (chain k) 0 (length (chain k)) ns ≡ (IsTree n, filled ns (treeBytes (chainAt 0 k)))) m
+      (stores-are-the-meaning 20 (lit≤ tt) (suc k) (chain k) 0 (length (chain k)) ns (record { ahead = omega arith; inside = omega arith }) (omega arith) small
+      (depth-within 20 _ 0 (chainAt 0 k) (chain-there k) (suc k) .1 (omega arith)) (nodes-within 20 _ 0 (chainAt 0 k) (chain-there k) (lent ns) .1 (omega arith)) (chainAt 0 k) (chain-there k))
 
-  pub room-for-one-less : lent ns ≡ 63 → readTree 20 depthLimit (chain 63) 0 (length (chain 63)) ns ≡ (NoRoom, zeroed ns)
+  pub room-for-one-less : lent ns ≡ k → readTree 20 (suc k) (chain k) 0 (length (chain k)) ns ≡ (NoRoom, zeroed ns)
   room-for-one-less room =
-      larger-has-no-room 20 (lit≤ tt) depthLimit (chain 63) 0 (length (chain 63)) ns (record { ahead = omega arith; inside = omega arith }) (omega arith) small (chainAt 0 63) (chain-there 63) (omega arith) (omega arith)
+      let e = chain-length k in
+      let d = chain-depth 0 k in
+      let m = chain-nodes 0 k in
+      larger-has-no-room 20 (lit≤ tt) (suc k) (chain k) 0 (length (chain k)) ns (record { ahead = omega arith; inside = omega arith }) (omega arith) small (chainAt 0 k) (chain-there k) (omega arith) (omega arith)
 
-  pub one-level-deeper : lent ns ≡ 65 → readTree 20 depthLimit (chain 64) 0 (length (chain 64)) ns ≡ (TooDeep, zeroed ns)
+  pub one-level-deeper : lent ns ≡ suc (suc k) → readTree 20 (suc k) (chain (suc k)) 0 (length (chain (suc k))) ns ≡ (TooDeep, zeroed ns)
   one-level-deeper room =
-      deeper-is-too-deep 20 (lit≤ tt) depthLimit (chain 64) 0 (length (chain 64)) ns (record { ahead = omega arith; inside = omega arith }) (omega arith) small (chainAt 0 64) (chain-there 64) (omega arith) (omega arith)
+      let e = chain-length (suc k) in
+      let d = chain-depth 0 (suc k) in
+      let m = chain-nodes 0 (suc k) in
+      deeper-is-too-deep 20 (lit≤ tt) (suc k) (chain (suc k)) 0 (length (chain (suc k))) ns (record { ahead = omega arith; inside = omega arith }) (omega arith) small (chainAt 0 (suc k)) (chain-there (suc k)) (omega arith) (omega arith)

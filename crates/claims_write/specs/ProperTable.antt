@@ -60,7 +60,7 @@ pub record ProperTable (limit : ℕ) (ns nm : List ℕ) : Type 0 where
   pub inside : (i : ℕ) → i < nodesIn ns → (nameStartAt ns i ≤ nameEndAt ns i) × (nameEndAt ns i ≤ length nm)
   -- "and hold no NUL"
   pub plain : (i : ℕ) → i < nodesIn ns → NoNul (nameAt nm ns i)
-  -- "and depth is at most 64"
+  -- "and depth is at most 64", by 02, A2, 512
   pub depth : (i : ℕ) → i < nodesIn ns → NotDeeper limit ns i
 
 -- ---- names

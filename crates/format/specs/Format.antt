@@ -43,6 +43,6 @@ eoieSize id = offsetSize + id
 abbrev pub eoieWholeSize : ℕ → ℕ
 eoieWholeSize id = extensionHeaderSize + eoieSize id
 
--- "depth is at most 64"; the root has depth 1
+-- 02, A2: "a proper node table may be 512 deep"; the root has depth 1
 abbrev pub depthLimit : ℕ
-depthLimit = 64
+depthLimit = 512

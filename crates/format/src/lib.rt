@@ -27,4 +27,4 @@ pub const EOIE_SIZE: usize = OFFSET_SIZE + ID_SIZE;
 pub const EOIE_WHOLE_SIZE: usize = EXTENSION_HEADER_SIZE + EOIE_SIZE;
 
 // The deepest level of a tree; the root's is 1.
-pub const DEPTH_LIMIT: usize = 64;
+pub const DEPTH_LIMIT: usize = 512;

@@ -1,5 +1,5 @@
 -- A proper node table (01, Writing): "non-empty, node 0 alone has no parent, every other parent is an earlier node, subtree counts agree with parents, counts are -1
--- to 2^31 - 1, sibling names are distinct, names lie in the lent bytes and hold no NUL, and depth is at most 64"; over the depth. Assumes nothing.
+-- to 2^31 - 1, sibling names are distinct, names lie in the lent bytes and hold no NUL, and depth is at most 64", by 02, A2, 512; over the depth. Assumes nothing.
 use mathlib.Core.Bool.{Bool, true, false}
 use mathlib.Core.List.{List}
 use Prim.Native.Nat.{ℕ, zero, suc, _+_, _-_}

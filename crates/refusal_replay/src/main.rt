@@ -9,15 +9,14 @@ use libc::STDOUT_FILENO;
 // What each byte of a store is before the reader is called.
 const LENT: u8 = 238;
 
-// The most that is lent: three records, 64 path bytes and 64 nodes.
+// The most that is lent: three records, 64 path bytes and three nodes; where a test is of depth, as many nodes as a tree may be deep.
 const RECORDS: usize = 288;
 
 const PATHS: usize = 64;
 
-const NODES: usize = 4608;
+const NODES: usize = 216;
 
-// What is lent unless a test says otherwise: as much, but three nodes.
-const FEW_NODES: usize = 216;
+const DEEP_NODES: usize = 36864;
 
 fn text(s: &[u8]) {
     io::write_all(STDOUT_FILENO, s);
@@ -163,6 +162,15 @@ fn min(x: usize, y: usize) -> usize
     if x < y { x } else { y }
 }
 
+// Reads a file with a deep tree into all records and paths, and so many bytes of nodes.
+fn show_deep_file(file: &[u8], n: usize) {
+    let mut records = [LENT; RECORDS];
+    let mut paths = [LENT; PATHS];
+    let mut nodes = [LENT; DEEP_NODES];
+    let ns = min(n, DEEP_NODES);
+    show_read(file, &mut records, &mut paths, &mut nodes[..ns]);
+}
+
 // Reads a file into stores of so many bytes.
 fn show_file(file: &[u8], r: usize, p: usize, n: usize) {
     let mut records = [LENT; RECORDS];
@@ -174,7 +182,7 @@ fn show_file(file: &[u8], r: usize, p: usize, n: usize) {
     show_read(file, &mut records[..rs], &mut paths[..ps], &mut nodes[..ns]);
 }
 
-// Shows a file by its name.
+// Shows a file by its name. Where more than three nodes are lent, all records and paths are too.
 fn show(name: &[u8], r: usize, p: usize, n: usize) {
     text(b"== ");
     text(name);
@@ -187,16 +195,20 @@ fn show(name: &[u8], r: usize, p: usize, n: usize) {
     let mut file = io::buffer();
     let size = io::read_full(fd, &mut file);
     libc::close(fd);
-    show_file(&file[..size], r, p, n);
+    if NODES < n {
+        show_deep_file(&file[..size], n);
+    } else {
+        show_file(&file[..size], r, p, n);
+    }
 }
 
 // Rooms too small by one, and as small as will do.
 fn show_entry_rooms() {
-    show(b"page-one-line", 95, PATHS, FEW_NODES);
-    show(b"page-one-line", RECORDS, 0, FEW_NODES);
+    show(b"page-one-line", 95, PATHS, NODES);
+    show(b"page-one-line", RECORDS, 0, NODES);
     show(b"page-one-line", 96, 1, 0);
-    show(b"r6-second", 191, PATHS, FEW_NODES);
-    show(b"r6-second", RECORDS, 2, FEW_NODES);
+    show(b"r6-second", 191, PATHS, NODES);
+    show(b"r6-second", RECORDS, 2, NODES);
     show(b"r6-second", 192, 3, 0);
     show(b"r5-before-r6", 0, 0, 0);
 }
@@ -206,10 +218,10 @@ fn show_node_rooms() {
     show(b"r10-no-node", RECORDS, PATHS, 72);
     show(b"r10-second", RECORDS, PATHS, 72);
     show(b"r10-second", RECORDS, PATHS, 144);
-    show(b"D8", RECORDS, PATHS, NODES);
-    show(b"D8", RECORDS, PATHS, NODES - 1);
-    show(b"r9-not-at-64", RECORDS, PATHS, NODES);
-    show(b"r9-after-entry", RECORDS, PATHS, NODES);
+    show(b"D8", RECORDS, PATHS, DEEP_NODES);
+    show(b"D8", RECORDS, PATHS, DEEP_NODES - 1);
+    show(b"r9-not-at-512", RECORDS, PATHS, DEEP_NODES);
+    show(b"r9-after-entry", RECORDS, PATHS, DEEP_NODES);
 }
 
 // Input of 65,536 bytes is read, and longer input is not.
@@ -229,7 +241,7 @@ fn show_too_big() {
 fn show_argument(i: usize) {
     let mut name = io::buffer();
     let n = os::arg(i, &mut name);
-    show(&name[..n], RECORDS, PATHS, FEW_NODES);
+    show(&name[..n], RECORDS, PATHS, NODES);
 }
 
 fn main() {

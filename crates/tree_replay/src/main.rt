@@ -1,5 +1,5 @@
 // Replays what the Rust answers for TREE. `stdin` has the bodies, each behind its length in two bytes, and `stdout` a line for each: `none`, `9`, `10`, or the nodes, each
-// as parent, name, count, subtree count and id. tests/make/tree_replay made both files with the oracle; it names the two differences: 9 past depth 64 (D8), and children in
+// as parent, name, count, subtree count and id. tests/make/tree_replay made both files with the oracle; it names the two differences: 9 past depth 512 (D8), and children in
 // file order (D9).
 ghost use mathlib.Core.Path.{_≡_};
 ghost use lib.ListN.{length};
@@ -14,11 +14,11 @@ fn cases_room() -> [u8; 131072]
     [0; 131072]
 }
 
-// Room for a hundred nodes, and seven bytes over.
-fn nodes_room() -> [u8; 7207]
-    ensures { λ r. ⌜ 7207 ≡ length r ⌝ }
+// Room for 520 nodes, more than a tree may be deep, and seven bytes over.
+fn nodes_room() -> [u8; 37447]
+    ensures { λ r. ⌜ 37447 ≡ length r ⌝ }
 {
-    [0; 7207]
+    [0; 37447]
 }
 
 // Bytes in hexadecimal digits.

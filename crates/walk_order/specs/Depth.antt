@@ -1,4 +1,4 @@
--- How deep the nodes of a table stand (01, Writing: "depth is at most 64"; the root has depth 1), and the tables in walk order in which no node stands too deep. Over
+-- How deep the nodes of a table stand (01, Writing: "depth is at most 64", by 02, A2, 512; the root has depth 1), and the tables in walk order in which no node stands too deep. Over
 -- the depth. Assumes nothing.
 use mathlib.Core.Bool.{Bool, true, false}
 use mathlib.Core.Path.{_≡_, refl, sym, ap, _∙_, subst}

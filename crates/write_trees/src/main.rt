@@ -1,8 +1,11 @@
 // Node tables of each kind, checked, sized and written: siblings in byte order, in git's own order, on several levels too, and in no order; more runs of
 // names than there are tails kept; a table that is not in walk order; a chain of folders as deep as allowed, and one that is a folder deeper, which is not
-// proper, and of which the upper folders are sized and written all the same.
+// proper, and of which the upper folders are sized and written all the same. Of the chains a whole file is written too, and read back.
+use file::Answer as Got;
 use libc::STDOUT_FILENO;
 use node::Node;
+use write::Answer;
+use write::Options;
 
 // The nodes' names are parts of this: "a" from 0 to 1, "ab" from 0 to 2.
 const NAMES: [u8; 20] = *b"abcdefghijklmnopqrst";
@@ -36,7 +39,7 @@ fn put(nodes: &mut [u8], i: usize, start: usize, stop: usize, subtrees: u64, par
 // What the table is, whether it is proper, how many bytes its tree has, and the tree with a byte behind it, which stays as it was.
 fn show_tree(kind: &[u8], nodes: &[u8]) {
     let names = NAMES;
-    let mut out = [255u8; 512];
+    let mut out = [255u8; 3584];
     io::write_all(STDOUT_FILENO, kind);
     if proper::is_proper(nodes, &names) {
         io::write_all(STDOUT_FILENO, b" proper ");
@@ -49,6 +52,62 @@ fn show_tree(kind: &[u8], nodes: &[u8]) {
     tree_write::put_tree(nodes, &names, &mut out, 0);
     show_hex(&out, size);
     io::write_all(STDOUT_FILENO, b"\n");
+}
+
+// How many nodes are read back.
+fn read_back(file: &[u8]) {
+    let mut nodes = [0u8; 36936];
+    let mut records = [0u8; 0];
+    let mut paths = [0u8; 0];
+    let a = file::read(file, &mut records, &mut paths, &mut nodes);
+    if let Got::Read {
+        version: _,
+        sparse: _,
+        tree: _,
+        records: _,
+        path_bytes: _,
+        nodes: used,
+    } = a {
+        io::write_all(STDOUT_FILENO, b"nodes read back: ");
+        io::print_decimal(STDOUT_FILENO, used as u64);
+        io::write_all(STDOUT_FILENO, b"\n");
+    }
+}
+
+// The same of the first `size` bytes.
+fn read_back_start(out: &[u8], size: usize) {
+    if size <= out.len() {
+        read_back(&out[..size]);
+    }
+}
+
+// A file of no records with this tree: its size and how many nodes are read back, or that the table is not proper.
+fn show_file(nodes: &[u8]) {
+    let names = NAMES;
+    let none = [0u8; 0];
+    let mut out = [0u8; 4096];
+    let only_tree = Options {
+        tree: true,
+        cache: true,
+        eoie: false,
+        sparse: false,
+        unhashed: false,
+    };
+    let a = write::write_to(&none, &none, nodes, &names, only_tree, &mut out);
+    match a {
+        Answer::Done { version: _, size } => {
+            io::write_all(STDOUT_FILENO, b"file ");
+            io::print_decimal(STDOUT_FILENO, size as u64);
+            io::write_all(STDOUT_FILENO, b"\n");
+            read_back_start(&out, size);
+        }
+        Answer::NotProper => {
+            io::write_all(STDOUT_FILENO, b"refused 16\n");
+        }
+        Answer::PathOutside { index: _ } | Answer::TooLarge | Answer::ShortOutput { size: _ } => {
+            io::write_all(STDOUT_FILENO, b"another refusal\n");
+        }
+    }
 }
 
 // a with ab below it, b.
@@ -167,16 +226,25 @@ fn chain(nodes: &mut [u8], levels: usize) {
     }
 }
 
+fn not_deepest() {
+    let mut nodes = [0u8; 36792];
+    chain(&mut nodes, 511);
+    show_tree(b"a folder less than allowed:", &nodes);
+    show_file(&nodes);
+}
+
 fn deepest() {
-    let mut nodes = [0u8; 4608];
-    chain(&mut nodes, 64);
+    let mut nodes = [0u8; 36864];
+    chain(&mut nodes, 512);
     show_tree(b"as deep as allowed:", &nodes);
+    show_file(&nodes);
 }
 
 fn too_deep() {
-    let mut nodes = [0u8; 4680];
-    chain(&mut nodes, 65);
+    let mut nodes = [0u8; 36936];
+    chain(&mut nodes, 513);
     show_tree(b"a folder too deep:", &nodes);
+    show_file(&nodes);
 }
 
 fn main() {
@@ -186,6 +254,7 @@ fn main() {
     many_runs();
     no_order();
     no_walk_order();
+    not_deepest();
     deepest();
     too_deep();
 }
