@@ -1,4 +1,7 @@
 // Looking a record up by its path and its stage.
+
+#![tactic(auto)]
+
 ghost use Rattle.std.specs.Prelude.{◌≡◌};
 ghost use Rattle.entry.specs.Paths.{lying_in};
 ghost use Rattle.access.specs.Order.{placed};

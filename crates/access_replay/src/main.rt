@@ -2,6 +2,9 @@
 // check, `l` for a lookup and `t` for the check and any number of lookups in one table; the number of records; each record's stage, its path's length and its path;
 // and then, for `l`, the stage and the path that are looked for; for `t`, each stage, path's length and path. tests/make/access_replay made the list and the answers of
 // `stdout`.
+
+#![tactic(auto)]
+
 ghost use Rattle.std.specs.Prelude.{◌*◌, ◌<◌, ◌≡◌, length};
 
 use access::Found;

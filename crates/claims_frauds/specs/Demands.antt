@@ -7,7 +7,7 @@ use Rattle.std.proofs.Math.ListN.{get_elem?}
 use Rattle.laws.specs.Pick.{pick}
 use Rattle.wire.specs.Places.{file_at}
 use Rattle.format.specs.Format.{depth_limit}
-use Rattle.sha1.specs.Sha1.{sha1}
+use Rattle.sha1_hash.specs.Sha1.{sha1}
 use Rattle.kind.specs.Kind.{Kind}
 use Rattle.entry.specs.Paths.{Paths, lying_in}
 use Rattle.entry.specs.Layout.{record_size}

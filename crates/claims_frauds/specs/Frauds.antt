@@ -6,8 +6,8 @@ use Rattle.laws.specs.Pick.{pick}
 use Rattle.laws.specs.Tests.{lt_or_ge}
 use Rattle.slices.specs.Bytes.{same_bytes}
 use Rattle.slices.specs.Laws.{same_equal}
-use Rattle.sha1.specs.Pieces as pieces
-use Rattle.sha1.specs.declared.Digest.{Digest}
+use Rattle.sha1_hash.specs.Pieces as pieces
+use Rattle.sha1_hash.specs.declared.Digest.{Digest}
 use Rattle.kind.specs.Sha1.{sha1_kind}
 use Rattle.entry.specs.Paths.{Paths}
 use Rattle.access.specs.Lookup.{lookup_at}

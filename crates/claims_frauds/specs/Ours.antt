@@ -5,10 +5,10 @@ use Rattle.std.proofs.lemmas.Bool.{false≢true}
 use Rattle.laws.specs.Pick.{pick}
 use Rattle.wire.specs.Places.{file_at}
 use Rattle.format.specs.Format.{depth_limit, id_size}
-use Rattle.sha1.specs.Sha1.{sha1}
-use Rattle.sha1.specs.Pieces as pieces
-use Rattle.sha1.specs.Theorems.{each_prefix_finishes}
-use Rattle.sha1.specs.declared.Digest.{Digest}
+use Rattle.sha1_hash.specs.Sha1.{sha1}
+use Rattle.sha1_hash.specs.Pieces as pieces
+use Rattle.sha1_hash.specs.Theorems.{each_prefix_finishes}
+use Rattle.sha1_hash.specs.declared.Digest.{Digest}
 use Rattle.kind.specs.Sha1.{sha1_kind}
 use Rattle.node.specs.Store.{nodes_in}
 use Rattle.extension.specs.declared.end_of_index_entry.Told.TheVariants.{Offset}
@@ -34,7 +34,7 @@ use Rattle.claims_write.specs.Eoie as eoie
 use Rattle.claims_write.specs.Claims as claims_write
 use Rattle.claims_frauds.specs.Demands.{Reader, Writer, Digester, Demand3, AnswersByTheTable, Answers, WritesAsAsked, Case, Done?, ReadsBack, Finds, Demand2, CountsTheSteps, fed_all, DigestsEachPrefix}
 
--- what the contracts of `file::read`, `write::write_to`, `access::lookup` and `sha1::Digest` cite
+-- what the contracts of `file::read`, `write::write_to`, `access::lookup` and `sha1_hash::Digest` cite
 abbrev pub reader : Reader
 reader = read_file sha1_kind depth_limit
 

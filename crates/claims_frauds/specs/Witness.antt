@@ -8,7 +8,7 @@ use Rattle.laws.specs.Times.{read_times, done, more}
 use Rattle.wire.specs.BigEndian.{be_at, bytes_of}
 use Rattle.slices.specs.Bytes.{nul_in, nul_at}
 use Rattle.format.specs.Format.{id_size, depth_limit}
-use Rattle.sha1.specs.Sha1.{rotl, ch, parity, maj, mix_of, const_of, zeros_of, padding, initial, words_of, next_word, extend, schedule, turn, rounds, added, compress, hash_blocks, digest_of, sha1}
+use Rattle.sha1_hash.specs.Sha1.{rotl, ch, parity, maj, mix_of, const_of, zeros_of, padding, initial, words_of, next_word, extend, schedule, turn, rounds, added, compress, hash_blocks, digest_of, sha1}
 use Rattle.kind.specs.Sha1.{sha1_kind}
 use Rattle.entry.specs.Mode.{keep_mode}
 use Rattle.entry.specs.Paths.{Paths, lying_in}

@@ -8,8 +8,8 @@ use Rattle.std.proofs.Math.ListN.{drop_of_length-le}
 use Rattle.std.proofs.lemmas.List.{length-replicate}
 use Rattle.laws.specs.Fill.{done}
 use Rattle.format.specs.Format.{id_size}
-use Rattle.sha1.specs.Length.{length-sha1}
-use Rattle.sha1.specs.Sha1.{sha1}
+use Rattle.sha1_hash.specs.Length.{length-sha1}
+use Rattle.sha1_hash.specs.Sha1.{sha1}
 use Rattle.kind.specs.Sha1.{sha1_kind}
 use Rattle.entry.specs.Paths.{Paths}
 use Rattle.access.specs.Marked.{table, paths}

@@ -6,9 +6,9 @@ use contract.Lifetimes.{Lfts}
 use borrow.Fn.Kinds.{ParamKind, ResultKind, Out, Dens}
 use Rattle.format.specs.Format.{depth_limit}
 use Rattle.kind.specs.Sha1.{sha1_kind}
-use Rattle.sha1.specs.Sha1 as fips
-use Rattle.sha1.specs.Pieces.{digest_after, fed, finished}
-use Rattle.sha1.specs.declared.Digest.{Digest}
+use Rattle.sha1_hash.specs.Sha1 as fips
+use Rattle.sha1_hash.specs.Pieces.{digest_after, fed, finished}
+use Rattle.sha1_hash.specs.declared.Digest.{Digest}
 use Rattle.access.specs.Lookup.{lookup_at}
 use Rattle.access.specs.Verify.{verify_at}
 use Rattle.access.specs.declared.Found.{Found}
@@ -18,7 +18,7 @@ use Rattle.file.specs.declared.Answer.{Answer}
 use Rattle.write.specs.File as writing
 use Rattle.write.specs.declared.Options.{Options}
 use Rattle.write.specs.declared.Answer.{Answer as Wrote}
-use Rattle.sha1.proofs as sha1
+use Rattle.sha1_hash.proofs as sha1
 use Rattle.entry.specs.Paths.{Paths, lying_in}
 use Rattle.access.proofs as access
 use Rattle.file.proofs as file

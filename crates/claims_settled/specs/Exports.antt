@@ -3,7 +3,7 @@
 use Rattle.std.specs.Prelude.{ℕ, ◌-◌, ◌≡◌, List, [], ◌∷◌, length}
 use Rattle.wire.specs.Places.{file_at}
 use Rattle.format.specs.Format.{depth_limit, header_size, id_size}
-use Rattle.sha1.specs.Sha1.{sha1}
+use Rattle.sha1_hash.specs.Sha1.{sha1}
 use Rattle.kind.specs.Sha1.{sha1_kind}
 use Rattle.entry.specs.Paths.{Paths, lying_in}
 use Rattle.entry.specs.Record.{id_at}

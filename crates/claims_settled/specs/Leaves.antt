@@ -4,7 +4,7 @@ use Rattle.sums.proofs as sums
 use Rattle.show.proofs as show
 use Rattle.slices.proofs as slices
 use Rattle.wire.proofs as wire
-use Rattle.sha1.proofs as sha1
+use Rattle.sha1_hash.proofs as sha1
 use Rattle.claims_settled.specs.Law.{Settles, both, settled}
 
 -- ---- `sums`

@@ -1,5 +1,8 @@
 // Replays answers of the Rust on short entry blocks: standard input has the cases that tests/make/decode_replay made, each with the Rust's answer, its records and its
 // paths. The program reads each block, compares all of that, and names the known differences (docs/DIFFERENCES.md) and any other case that parts.
+
+#![tactic(auto)]
+
 ghost use Rattle.std.specs.Prelude.{◌<◌, ◌≤◌};
 
 use decode::entries::{Answer, Before};

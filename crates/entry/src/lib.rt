@@ -1,5 +1,8 @@
 // The record store: 96 bytes a record. The ten fields stand as in the file (0 to 39, the mode masked), the id in 32 bytes (40), the flags (72), and where the path
 // starts (76) and ends (84) in the path store; four bytes are zero. All that is known of this layout is known here.
+
+#![tactic(auto)]
+
 ghost use Rattle.std.specs.Prelude.{◌≡◌, ◌+◌, ◌-◌, ◌≤◌, length};
 ghost use Rattle.std.proofs.Math.Seq.{paste};
 ghost use Rattle.format.specs.Format.{id_size};

@@ -13,11 +13,11 @@ use Rattle.wire.specs.Places.{file_at}
 use Rattle.wire.specs.declared.FileAt.{FileAt}
 use Rattle.slices.specs.Bytes.{same_bytes}
 use Rattle.format.specs.Format.{id_size}
-use Rattle.sha1.specs.Sha1.{sha1}
-use Rattle.sha1.specs.Length.{length-sha1}
-use Rattle.sha1.specs.Pieces.{digest_after, fed, finished, fed_all}
-use Rattle.sha1.specs.Theorems.{pieces_finish}
-use Rattle.sha1.specs.declared.Digest.{Digest}
+use Rattle.sha1_hash.specs.Sha1.{sha1}
+use Rattle.sha1_hash.specs.Length.{length-sha1}
+use Rattle.sha1_hash.specs.Pieces.{digest_after, fed, finished, fed_all}
+use Rattle.sha1_hash.specs.Theorems.{pieces_finish}
+use Rattle.sha1_hash.specs.declared.Digest.{Digest}
 use Rattle.kind.specs.Sha1.{sha1_kind}
 use Rattle.extension.specs.Signatures.{TREE, sdir, first_byte, IEOT, EOIE}
 use Rattle.extension.specs.Iter.{extension_at, step_at, Run, run_at, first_where, last_where, first_at}

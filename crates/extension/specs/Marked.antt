@@ -4,7 +4,7 @@ use mathlib.Core.List.{List, [], ◌∷◌, ◌++◌, flatten}
 use Rattle.slices.specs.Bytes.{same_bytes}
 use Rattle.wire.specs.BigEndian.{be_at, bytes_of}
 use Rattle.wire.specs.Places.{file_at}
-use Rattle.sha1.specs.Sha1.{rotl, ch, parity, maj, mix_of, const_of, zeros_of, padding, initial, words_of, next_word, extend, schedule, turn, rounds, added, compress, hash_blocks, digest_of, sha1}
+use Rattle.sha1_hash.specs.Sha1.{rotl, ch, parity, maj, mix_of, const_of, zeros_of, padding, initial, words_of, next_word, extend, schedule, turn, rounds, added, compress, hash_blocks, digest_of, sha1}
 use Rattle.format.specs.Format.{id_size, header_size}
 use Rattle.kind.specs.Sha1.{sha1_kind}
 use Rattle.extension.specs.Signatures.{TREE, sdir, IEOT, EOIE}

@@ -6,7 +6,7 @@ ghost use Rattle.extension.specs.EndOfIndexEntry.{prior_at, verified_at, offset_
 
 use crate::EOIE;
 use crate::iter::{Body, Cursor, Step};
-use sha1::Digest;
+use sha1_hash::Digest;
 use wire::FileAt;
 
 // How long the body is, as its header says it.

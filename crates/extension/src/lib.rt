@@ -1,5 +1,8 @@
 // The extensions of an index: 4 signature bytes, a big-endian 32-bit size, and that many bytes, one behind the other. `iter` walks them, `decode` reads the
 // whole space behind the entries, and the two others read the extensions that speed up reading.
+
+#![tactic(auto)]
+
 pub mod decode;
 pub mod end_of_index_entry;
 pub mod index_entry_offset_table;

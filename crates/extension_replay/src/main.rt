@@ -1,6 +1,9 @@
 // Replays what the Rust answers for IEOT and EOIE. Each line of `stdin` is a letter and bytes in hexadecimal digits: `i`, the body of an IEOT; `f` and `g`, a file
 // whose extensions begin at 0 and at 12, in which IEOT is looked for; `e`, a file whose EOIE is asked for. The answers of `stdout` are the Rust's: tests/make/extension_replay
 // made both files, with the oracle.
+
+#![tactic(auto)]
+
 ghost use Rattle.std.specs.Prelude.{◌≤◌, ◌≡◌, length};
 
 use extension::end_of_index_entry::Told;

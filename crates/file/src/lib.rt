@@ -1,4 +1,7 @@
 // The whole index file, read into lent stores: header, trailer, entries, extensions, and the last TREE.
+
+#![tactic(auto)]
+
 ghost use Rattle.std.specs.Prelude.{◌≡◌, ◌≤◌, length};
 ghost use Rattle.wire.specs.declared.FileAt.{FileAt};
 ghost use Rattle.format.specs.Format.{depth_limit, id_size};
@@ -125,7 +128,7 @@ fn good_trailer(file: &[u8]) -> bool
     if slices::same(file, n, &zeros, 0, format::ID_SIZE) {
         return true;
     }
-    let digest = sha1::sha1_of(&file[..n]);
+    let digest = sha1_hash::sha1_of(&file[..n]);
     slices::same(file, n, &digest, 0, format::ID_SIZE)
 }
 

@@ -1,5 +1,7 @@
 // Numbers of the index format that more than one crate names: each is one constant here and one in specs/Format.antt, and every contract that meets them ties the two.
 
+#![tactic(auto)]
+
 // The bytes of an id, and so of the trailer.
 pub const ID_SIZE: usize = 20;
 

@@ -10,9 +10,14 @@ pub data Before : List ℕ → List ℕ → Type 0 where
   smaller : {x y : ℕ} {xs ys : List ℕ} → x < y → Before (x ∷ xs) (y ∷ ys)
   further : {x : ℕ} {xs ys : List ℕ} → Before xs ys → Before (x ∷ xs) (x ∷ ys)
 
+-- said of two lists, since a list that stands on both sides cannot be taken apart
+apart : {a b : List ℕ} → Before a b → a ≡ b → ⊥
+apart prefix e = cc
+apart (smaller {x = x} {y = y} h) e = let q : x ≡ y = cc in omega arith
+apart (further t) e = apart t cc
+
 pub irreflexive : {a : List ℕ} → Before a a → ⊥
-irreflexive (smaller h) = omega arith
-irreflexive (further t) = irreflexive t
+irreflexive t = apart t refl
 
 pub transitive : {a b c : List ℕ} → Before a b → Before b c → Before a c
 transitive prefix (smaller h) = prefix

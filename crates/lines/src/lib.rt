@@ -1,4 +1,7 @@
 // Records as lines of text, as `git ls-files --stage` prints them, and a refusal as one line. A text is sized first, and written only if it fits.
+
+#![tactic(auto)]
+
 ghost use Rattle.std.specs.Prelude.{◌≡◌, [], ◌∷◌, ◌++◌, ◌+◌, ◌%◌, ◌≤◌, ◌<◌, length};
 ghost use Rattle.format.specs.Format.{id_size};
 ghost use Rattle.laws.specs.Put.{put};

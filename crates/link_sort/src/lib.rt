@@ -3,6 +3,9 @@
 // that is strung by number, from the last child backwards, and sorted by name in halves; then a walk along the list sees equal names side by side and puts the
 // parents back. Lists are counted, so that they need no end mark. A merge takes the lesser of two first nodes and puts it in front of those that were taken, so
 // its result goes the other way.
+
+#![tactic(auto)]
+
 ghost use Rattle.std.specs.Prelude.{◌≡◌, ◌-◌};
 ghost use Rattle.link_sort.specs.Runs.{opposite, is_before, takes_left, turn_of, merge_run, lone_of, sort_run, still_of, step_of, begun, walk_run, strung_kids, sorted_differ};
 

@@ -1,4 +1,7 @@
 // The listing program: reads an index on standard input and prints a line for each entry, or one line that names the refusal.
+
+#![tactic(auto)]
+
 use libc::{STDIN_FILENO, STDOUT_FILENO};
 
 // Prints the listing of a file. Every listing fits, so that no part of one is ever held back.

@@ -1,4 +1,7 @@
 // Lists each of its files, which git made; its stdout is what git printed of them (tests/make/list_indexes made both).
+
+#![tactic(auto)]
+
 use libc::STDOUT_FILENO;
 
 // Writes a text that was put at the start of out.

@@ -1,4 +1,7 @@
 // An answer of the reader and its stores as text, and all that the listing program prints of a file.
+
+#![tactic(auto)]
+
 ghost use Rattle.std.specs.Prelude.{◌≡◌};
 ghost use Rattle.lines.specs.Written.{outcome, written};
 ghost use Rattle.list_text.specs.Listed.{records_of, text_of, too_big, listed};

@@ -1,5 +1,8 @@
 // One entry of the index, measured: where it ends, its record's flags, and how its path is made. Versions 2 and 3 pad to a multiple of 8; version 4
 // strips the path before. Nothing is stored here, so what is refused leaves nothing behind.
+
+#![tactic(auto)]
+
 ghost use Rattle.std.specs.Prelude.{◌≡◌, ◌+◌, ◌*◌, ◌/◌, ◌%◌, ◌^◌, ◌≤◌, ◌<◌, length};
 ghost use Rattle.format.specs.Format.{fixed_extended_size, id_size};
 ghost use Rattle.measure.specs.Entry.{extended_at, head_at, HeadFits, padded_to, padded_at, kept_of, suffixed_at, compressed_at, measure_at};

@@ -1,5 +1,8 @@
 // A node of the TREE extension: its head as the file spells it, and its 72 bytes in a lent node store. A node's bytes are where its name starts and ends in the
 // file, its entry count, its subtree count and its parent, 64 bits each, and 32 bytes of id. All that is known of this layout is known here.
+
+#![tactic(auto)]
+
 ghost use Rattle.std.specs.Prelude.{◌≡◌, ◌+◌, ◌*◌, ◌-◌, ◌/◌, ◌≤◌, ◌<◌, length};
 ghost use Rattle.std.proofs.Math.Seq.{paste};
 ghost use Rattle.wire.specs.Places.{file_at};

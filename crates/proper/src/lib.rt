@@ -1,4 +1,7 @@
 // Whether a node table is proper.
+
+#![tactic(auto)]
+
 ghost use Rattle.std.specs.Prelude.{true, false, ◌≡◌, ◌-◌, ◌<◌};
 ghost use Rattle.laws.specs.Pick.{pick};
 ghost use Rattle.format.specs.Format.{depth_limit};

@@ -1,6 +1,8 @@
 // The numbers of 01's table "When the desk says no": each refusal is one constant here and one in specs/Refusal.antt, and the contract of every function that returns
 // the one cites the other, by the `number_of` of its answer.
 
+#![tactic(auto)]
+
 pub const SHORT_FILE: u32 = 1;
 
 pub const NO_SIGNATURE: u32 = 2;

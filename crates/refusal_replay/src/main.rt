@@ -1,6 +1,9 @@
 // Reads small files that were put together by hand (tests/make/refusal_replay says how, byte by byte) and shows of each the answer, the listing, the first nodes of its tree,
 // and what became of the three stores: how many bytes were lent, how many of them are not as they were, and how many bytes of the node store are zero. Every byte of a
 // store is LENT before. First come files that are lent a room of their own, then those that its arguments name.
+
+#![tactic(auto)]
+
 ghost use Rattle.std.specs.Prelude.{◌≤◌, length};
 
 use file::Answer;

@@ -1,5 +1,8 @@
 // The digests of 201 messages, of 0 to 200 bytes: byte i of each is (7 i + 3) modulo 256. The digests of `stdout` were made with `sha1sum`, by
 // tests/make/sha1_lengths.
+
+#![tactic(auto)]
+
 use libc::STDOUT_FILENO;
 
 const LONGEST: usize = 200;
@@ -19,7 +22,7 @@ fn main() {
     let s = message();
     let mut n: usize = 0;
     while n <= LONGEST {
-        io::write_all(STDOUT_FILENO, &show::hex_line(sha1::sha1_of(&s[..n])));
+        io::write_all(STDOUT_FILENO, &show::hex_line(sha1_hash::sha1_of(&s[..n])));
         n += 1;
     }
 }

@@ -1,10 +1,13 @@
 // The messages of FIPS 180-4's examples: nothing, one block, the message of 448 bits, whose padding takes a block of its own, the message of 896 bits, and a
 // million times "a", fed in pieces of 1 to 130 bytes.
+
+#![tactic(auto)]
+
 ghost use Rattle.std.specs.Prelude.{◌≡◌, ◌<◌, ◌≤◌, replicate};
-ghost use Rattle.sha1.specs.Sha1.{sha1};
+ghost use Rattle.sha1_hash.specs.Sha1.{sha1};
 
 use libc::STDOUT_FILENO;
-use sha1::Digest;
+use sha1_hash::Digest;
 
 fn write(id: [u8; 20]) {
     io::write_all(STDOUT_FILENO, &show::hex_line(id));
@@ -37,10 +40,10 @@ fn uneven(n: usize) -> [u8; 20]
 }
 
 fn main() {
-    write(sha1::sha1_of(b""));
-    write(sha1::sha1_of(b"abc"));
-    write(sha1::sha1_of(b"abcdbcdecdefdefgefghfghighijhijkijkljklmklmnlmnomnopnopq"));
-    write(sha1::sha1_of(
+    write(sha1_hash::sha1_of(b""));
+    write(sha1_hash::sha1_of(b"abc"));
+    write(sha1_hash::sha1_of(b"abcdbcdecdefdefgefghfghighijhijkijkljklmklmnlmnomnopnopq"));
+    write(sha1_hash::sha1_of(
         b"abcdefghbcdefghicdefghijdefghijkefghijklfghijklmghijklmnhijklmnoijklmnopjklmnopqklmnopqrlmnopqrsmnopqrstnopqrstu",
     ));
     write(uneven(1000000));

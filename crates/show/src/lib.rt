@@ -1,4 +1,7 @@
 // How the programs write what they show.
+
+#![tactic(auto)]
+
 ghost use Rattle.std.specs.Prelude.{◌≡◌, [], ◌∷◌, ◌++◌};
 ghost use Rattle.show.specs.Hex.{digit, hex};
 

@@ -1,5 +1,8 @@
 // Whether the names of a node's children differ. Children in strict order of name are settled while they are read, each compared with the one before it. Where they
 // come in no order that is known here, the reader sorts them (link_sort), and in a table that is checked each is compared with all before it.
+
+#![tactic(auto)]
+
 ghost use Rattle.std.specs.Prelude.{◌≡◌};
 ghost use Rattle.slices.specs.Bytes.{same_bytes};
 ghost use Rattle.node.specs.Store.{name_at};

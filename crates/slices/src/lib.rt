@@ -1,4 +1,7 @@
 // Bytes copied, zeroed, compared and searched, each by one loop. A contract of a copy is one paste: what stood at the place is replaced, and all else is as it was.
+
+#![tactic(auto)]
+
 ghost use Rattle.std.specs.Prelude.{◌≡◌, ◌+◌, ◌≤◌, length, take, drop, replicate};
 ghost use Rattle.std.proofs.Math.Seq.{paste};
 ghost use Rattle.slices.specs.Bytes.{same_bytes, nul_at};

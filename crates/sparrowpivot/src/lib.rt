@@ -1,7 +1,10 @@
 // The static library: what programs in other languages call; include/sparrowpivot.h declares it. A slice is passed as a pointer and a count. A function that answers
 // more than one number puts them into eight lent numbers, all of which it writes, 0 where unused, and returns 01's refusal number, 0 where nothing is refused.
+
+#![tactic(auto)]
+
 ghost use Rattle.std.specs.Prelude.{◌≡◌};
-ghost use Rattle.sha1.specs.Sha1.{sha1};
+ghost use Rattle.sha1_hash.specs.Sha1.{sha1};
 ghost use Rattle.refusal.specs.Bit.{bit};
 
 pub mod extensions;
@@ -15,7 +18,7 @@ pub mod writing;
 pub extern "C" fn sparrowpivot_sha1(bytes: &[u8], out: &mut [u8; 20])
     ensures { out.new ≡ sha1 bytes.now }
 {
-    *out = sha1::sha1_of(bytes);
+    *out = sha1_hash::sha1_of(bytes);
 }
 
 fn bit_of(b: bool) -> u64

@@ -1,4 +1,7 @@
 // Sums of sizes that stop at the largest number, and differences that stop at 0: a writer sizes before it tests, and no size wraps.
+
+#![tactic(auto)]
+
 ghost use Rattle.std.specs.Prelude.{◌≡◌, ◌+◌, ◌-◌};
 ghost use Rattle.sums.specs.Cap.{cap};
 

@@ -1,5 +1,8 @@
 // The TREE extension: a node and its subtrees, in file order, into a lent node store. Where the tree is malformed, too deep or too large for the store, every byte
 // lent is zeroed.
+
+#![tactic(auto)]
+
 ghost use Rattle.std.specs.Prelude.{◌≡◌};
 ghost use Rattle.tree.specs.declared.Step.TheVariants.{Read};
 ghost use Rattle.tree.specs.Tree.{node_at, settled, root_at, read_tree, answer_of, number_of};

@@ -1,6 +1,9 @@
 // Replays what the Rust answers for TREE. `stdin` has the bodies, each behind its length in two bytes, and `stdout` a line for each: `none`, `9`, `10`, or the nodes, each
 // as parent, name, count, subtree count and id. tests/make/tree_replay made both files with the oracle; it names the two differences: 9 past depth 512 (D8), and children in
 // file order (D9).
+
+#![tactic(auto)]
+
 ghost use Rattle.std.specs.Prelude.{◌≡◌, length};
 
 use libc::{STDIN_FILENO, STDOUT_FILENO};

@@ -1,5 +1,8 @@
 // The TREE extension, written from a lent node table: siblings in byte order of name. There is no heap. A table in walk order is written from its end, and of
 // a folder's children the last that is left is found among the tails of a few runs; elsewhere the next child is found by a pass over the table.
+
+#![tactic(auto)]
+
 ghost use Rattle.std.specs.Prelude.{◌≡◌, [], ◌∷◌, ◌+◌, ◌-◌, ◌≤◌, ◌<◌, length};
 ghost use Rattle.laws.specs.Put.{put};
 ghost use Rattle.sums.specs.Cap.{cap};

@@ -1,5 +1,8 @@
 // Node tables in walk order, as the reader stores them: what is below a node stands right behind it. There the climb by parents from a node leads to the child
 // of a node above that it stands below, so that children are listed with no search through what stands below them.
+
+#![tactic(auto)]
+
 ghost use Rattle.std.specs.Prelude.{◌≡◌, ◌≤◌};
 ghost use Rattle.format.specs.Format.{depth_limit};
 ghost use Rattle.walk_order.specs.Walk.{climbs_to, walks, kid_above};

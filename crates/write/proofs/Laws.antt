@@ -8,10 +8,10 @@ use lib.ListN.{length, take, drop, replicate, length-append, length-replicate}
 use lib.Seq.{paste, length-paste, take_at}
 use Rattle.laws.specs.Put.{put, put_none, put_front, put_put, length-put, paste_put}
 use Rattle.wire.specs.BigEndian.{bytes_of, length-bytes}
-use Rattle.sha1.specs.Sha1.{sha1}
+use Rattle.sha1_hash.specs.Sha1.{sha1}
 use Rattle.format.specs.Format.{id_size}
 use Rattle.write.specs.File.{extension_head, tree_signature, sparse_signature, eoie_signature, tree_head, sparse_part, heads_of, eoie_part, trailer_of}
-use Rattle.sha1.specs.Length.{length-sha1}
+use Rattle.sha1_hash.specs.Length.{length-sha1}
 use Rattle.kind.specs.Sha1.{sha1_kind}
 use Rattle.write.specs.Parts.{length-head, length_eoie}
 

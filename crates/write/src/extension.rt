@@ -2,7 +2,7 @@
 ghost use Rattle.std.specs.Prelude.{◌≡◌, ◌+◌, ◌≤◌, length, take};
 ghost use Rattle.laws.specs.Put.{put};
 ghost use Rattle.format.specs.Format.{id_size, extension_header_size};
-ghost use Rattle.sha1.specs.Sha1.{sha1};
+ghost use Rattle.sha1_hash.specs.Sha1.{sha1};
 ghost use Rattle.kind.specs.Sha1.{sha1_kind};
 ghost use Rattle.write.specs.File.{extension_head, tree_head, sparse_part, heads_in, eoie_part, trailer_of, Puts};
 
@@ -57,7 +57,7 @@ fn contents_hash(h: Heads) -> [u8; format::ID_SIZE]
     let mut toc = [0u8; 2 * format::EXTENSION_HEADER_SIZE];
     let middle = put_tree_head(h.tree, h.size, &mut toc, 0);
     let end = put_sparse(h.sparse, &mut toc, middle);
-    sha1::sha1_of(&toc[..end])
+    sha1_hash::sha1_of(&toc[..end])
 }
 
 // Writes EOIE, if it is written: where the extensions start, and the hash of their signatures and sizes.
@@ -85,6 +85,6 @@ pub fn put_trailer(skips: bool, out: &mut [u8], at: usize)
         slices::clear(out, at, format::ID_SIZE);
         return;
     }
-    let hash = sha1::sha1_of(&out[..at]);
+    let hash = sha1_hash::sha1_of(&out[..at]);
     slices::copy_bytes(&hash, 0, format::ID_SIZE, out, at);
 }

@@ -1,4 +1,7 @@
 // A whole index file, written into a lent output: everything is sized and tested first, and a refusal leaves the output as it was.
+
+#![tactic(auto)]
+
 ghost use Rattle.std.specs.Prelude.{◌≡◌, ◌+◌, ◌≤◌, length, take};
 ghost use Rattle.laws.specs.Put.{put};
 ghost use Rattle.sums.specs.Cap.{cap};

@@ -1,5 +1,8 @@
 // Reads index files that git made and writes each back, with TREE only and the hash. Its arguments name them two by two: a file, and what the Rust wrote of it. What
 // it prints must be what tests/make/write_back, which made the files, says of the Rust's.
+
+#![tactic(auto)]
+
 ghost use Rattle.io.specs.Counts.{IsPrefixLen};
 
 use file::Answer as Got;
@@ -62,7 +65,7 @@ fn show_bytes(written: &[u8], rust: &[u8]) {
     } else {
         text(b", NOT as the Rust, sha1 ");
     }
-    text(&show::hex_line(sha1::sha1_of(written)));
+    text(&show::hex_line(sha1_hash::sha1_of(written)));
 }
 
 // The line of a refusal.

@@ -1,5 +1,8 @@
 // Pages of the writer: 01's TREE of 32 bytes, read and written back, and the differences D10 to D13 from the Rust; tests/pages has what the Rust makes of the same
 // tables.
+
+#![tactic(auto)]
+
 ghost use Rattle.std.specs.Prelude.{◌≡◌, length};
 
 use file::Answer as Got;
@@ -179,7 +182,7 @@ fn write_long(records: &[u8], paths: &[u8]) {
     let a = write::write_to(records, paths, &none, &none, only_tree(false), &mut out);
     io::write_all(STDOUT_FILENO, b"D12, D13: ");
     show_answer(a);
-    io::write_all(STDOUT_FILENO, &show::hex_line(sha1::sha1_of(&out)));
+    io::write_all(STDOUT_FILENO, &show::hex_line(sha1_hash::sha1_of(&out)));
     show_line(&out[4172..4234]);
     read_back(&out);
     let mut short = [255u8; 8];

@@ -1,6 +1,9 @@
 // Node tables of each kind, checked, sized and written: siblings in byte order, in git's own order, on several levels too, and in no order; more runs of
 // names than there are tails kept; a table that is not in walk order; a chain of folders as deep as allowed, and one that is a folder deeper, which is not
 // proper, and of which the upper folders are sized and written all the same. Of the chains a whole file is written too, and read back.
+
+#![tactic(auto)]
+
 use file::Answer as Got;
 use libc::STDOUT_FILENO;
 use node::Node;

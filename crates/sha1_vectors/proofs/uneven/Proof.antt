@@ -7,9 +7,9 @@ use mathlib.Core.List.{List, ◌++◌}
 use lib.ListN.{take, replicate, replicate-append-replicate}
 use lib.Seq.{length-take-le}
 use Rattle.laws.specs.Lists.{take-replicate}
-use Rattle.sha1.specs.Pieces.{digest_after, fed, finished}
-use Rattle.sha1.specs.Theorems.{fed_after, finished_after}
-use Rattle.sha1.specs.declared.Digest.{Digest}
+use Rattle.sha1_hash.specs.Pieces.{digest_after, fed, finished}
+use Rattle.sha1_hash.specs.Theorems.{fed_after, finished_after}
+use Rattle.sha1_hash.specs.declared.Digest.{Digest}
 use Rattle.sha1_vectors.proofs.uneven.Statement.{statement}
 use Rattle.sha1_vectors.proofs.uneven.Tie as tie
 

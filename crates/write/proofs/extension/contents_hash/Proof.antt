@@ -6,7 +6,7 @@ use Rattle.write.proofs.extension.contents_hash.Statement.{statement}
 use Rattle.write.proofs.extension.contents_hash.Tie as tie
 use Rattle.write.proofs.extension.contents_hash.Reads as reads
 use Rattle.write.proofs.extension.contents_hash.Lts as lts
-use Rattle.sha1.proofs.sha1_of.Reads as sha1-of-reads
+use Rattle.sha1_hash.proofs.sha1_of.Reads as sha1-of-reads
 use Rattle.write.proofs.extension.put_sparse.Reads as put-sparse-reads
 use Rattle.write.proofs.extension.put_tree_head.Reads as put-tree-head-reads
 

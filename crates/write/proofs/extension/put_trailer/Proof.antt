@@ -7,7 +7,7 @@ use Rattle.write.proofs.extension.put_trailer.Statement.{statement}
 use Rattle.write.proofs.extension.put_trailer.Tie as tie
 use Rattle.write.proofs.extension.put_trailer.Reads as reads
 use Rattle.write.proofs.extension.put_trailer.Lts as lts
-use Rattle.sha1.proofs.sha1_of.Reads as sha1-of-reads
+use Rattle.sha1_hash.proofs.sha1_of.Reads as sha1-of-reads
 use Rattle.slices.proofs.clear.Reads as clear_reads
 use Rattle.slices.proofs.copy_bytes.Reads as copy-bytes-reads
 

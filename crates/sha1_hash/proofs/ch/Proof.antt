@@ -1,0 +1,31 @@
+-- `sha1_hash::ch` meets its contract: the operators are the definition's own. Assumes nothing.
+use Rattle.std.proofs.Common.{rules}
+use Rattle.sha1_hash.specs.Sha1.{ch}
+use Rattle.sha1_hash.proofs.ch.Statement.{statement}
+use Rattle.sha1_hash.proofs.ch.Tie as tie
+
+array-read-result : tie.Need-array-read-result
+array-read-result c = search rules
+
+array-read-result-2 : tie.Need-array-read-result-2
+array-read-result-2 c = search rules
+
+array-read-result-3 : tie.Need-array-read-result-3
+array-read-result-3 c = search rules
+
+array-read-result-4 : tie.Need-array-read-result-4
+array-read-result-4 c = search rules
+
+returns : tie.Need-returns
+unfolding ch
+returns c = search rules
+
+pub ch-spec : {M : Type 1} → statement M
+ch-spec =
+    tie.close
+    (tie.spec
+    array-read-result
+    array-read-result-2
+    array-read-result-3
+    array-read-result-4
+    returns)

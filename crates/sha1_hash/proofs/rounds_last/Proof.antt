@@ -1,0 +1,76 @@
+-- `sha1_hash::rounds_last` meets its contract: each turn of the loop is two rounds of `run_last`, and after the last no round is left. Assumes nothing.
+use Rattle.std.proofs.Common.{◌-◌, refl, arith, rules}
+use Rattle.sha1_hash.specs.Sha1.{extend, five, rounds}
+use Rattle.sha1_hash.proofs.Laws.{run_last}
+use Rattle.sha1_hash.proofs.Window.{repeated, Left, left_later, left_more, left_end, left_long}
+use Rattle.sha1_hash.proofs.rounds_last.Statement.{statement}
+use Rattle.sha1_hash.proofs.rounds_last.Tie as tie
+
+abbrev invariant-loop : tie.invariant-loop
+invariant-loop w₀ v₀ t₀ w v t = Left 60 (rounds (extend 20 (repeated 60 w₀)) 20 60 (five v₀)) v w t
+
+abbrev decreases-loop : tie.decreases-loop
+decreases-loop w₀ v₀ t₀ w v t = 80 - t
+
+loop-holds : tie.Need-loop-init invariant-loop decreases-loop
+loop-holds c = left_later 60 (omega arith) (omega arith) refl _ _ (search rules) c.requires
+
+parity-requires : tie.Need-parity-requires invariant-loop decreases-loop
+parity-requires c κs = search rules
+
+renew-requires : tie.Need-renew-requires invariant-loop decreases-loop
+renew-requires c κs = (c.before.before.before.loop.invariant.stand.held.long, (omega arith, omega arith))
+
+turn-requires : tie.Need-turn-requires invariant-loop decreases-loop
+turn-requires c κs = search rules
+
+parity-requires-2 : tie.Need-parity-requires-2 invariant-loop decreases-loop
+parity-requires-2 c κs = search rules
+
+add-renew : tie.Need-overflow-add-renew invariant-loop decreases-loop
+add-renew c = search rules
+
+renew-requires-2 : tie.Need-renew-requires-2 invariant-loop decreases-loop
+renew-requires-2 c κs =
+    let one = c.before.before.before in
+    (left_long one.before.before.before.before.loop.invariant one.renew.result one.renew.ensures.1, (omega arith, omega arith))
+
+turn-requires-2 : tie.Need-turn-requires-2 invariant-loop decreases-loop
+turn-requires-2 c κs = search rules
+
+add-t : tie.Need-overflow-add-t invariant-loop decreases-loop
+add-t c = search rules
+
+loop-less : tie.Need-loop-smaller invariant-loop decreases-loop
+loop-less c = search rules
+
+loop-again : tie.Need-loop-preserved invariant-loop decreases-loop
+loop-again c =
+    let two = c.before.before.before in
+    let one = two.before.before in
+    let start = one.before.before in
+    left_more run_last start.before.loop-test.true start.before.before.loop.invariant
+    start.parity.ensures one.renew.ensures.0 one.renew.ensures.1 two.before.turn.ensures
+    two.parity2.ensures c.before.renew2.ensures.0 c.before.renew2.ensures.1 c.turn2.ensures
+
+returns : tie.Need-returns invariant-loop decreases-loop
+returns c = left_end c.before.loop.invariant c.loop-test.false (omega arith)
+
+pub rounds-last-spec : {M : Type 1} → statement M
+rounds-last-spec =
+    tie.close
+    (tie.spec
+    invariant-loop
+    decreases-loop
+    loop-holds
+    parity-requires
+    renew-requires
+    turn-requires
+    parity-requires-2
+    add-renew
+    renew-requires-2
+    turn-requires-2
+    add-t
+    loop-less
+    loop-again
+    returns)

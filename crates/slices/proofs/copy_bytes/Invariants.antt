@@ -1,0 +1,16 @@
+-- `slices::copy_bytes` meets its contract. The invariant: the first j bytes are pasted. Assumes nothing.
+use borrow.Author.Rules.{rules}
+use native.Mathlib.Omega.{arith}
+use mathlib.Core.Path.{◌≡◌, refl, ap, ◌∙◌}
+use Prim.Native.Nat.{ℕ, ◌-◌, ◌≤◌}
+use native.Mathlib.Nat.{le_antisymm}
+use lib.ListN.{length, drop, length-set}
+use lib.Seq.{paste, paste-zero}
+use Rattle.laws.specs.Paste.{paste_more_from}
+use Rattle.slices.proofs.copy_bytes.Given as goal
+
+abbrev pub invariant-loop-j : goal.invariant-loop-j
+invariant-loop-j l = (l.j ≤ l.n) × ((l.dst ≡ paste l.initial.dst l.to (drop l.from l.src) l.j) × (length l.dst ≡ length l.initial.dst))
+
+abbrev pub decreases-loop-j : goal.decreases-loop-j
+decreases-loop-j l = l.n - l.j
