@@ -1,0 +1,14 @@
+-- `wire::seven_bit` meets its contract. The invariant: what is left to read, after a, answers what the whole does, and a is small enough for one group more. Assumes nothing.
+use lib.ListN.{drop}
+use Prim.Native.Nat.{◌<◌, ◌-◌, ◌^◌}
+use mathlib.Core.Path.{◌≡◌}
+use borrow.Author.Rules.{rules}
+use Rattle.wire.specs.Groups.{groups_in, number_at}
+use Rattle.wire.proofs.Laws.{groups}
+use Rattle.wire.proofs.seven_bit.Given as goal
+
+abbrev pub invariant-loop-i : goal.invariant-loop-i
+invariant-loop-i l = (l.a < 2 ^ 57) × (groups_in (l.end - l.i) (drop l.i l.s) l.i l.a ≡ number_at l.s l.at l.end)
+
+abbrev pub decreases-loop-i : goal.decreases-loop-i
+decreases-loop-i l = l.end - l.i
