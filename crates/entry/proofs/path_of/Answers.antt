@@ -1,0 +1,16 @@
+-- `entry::path_of` meets its contract. Assumes nothing.
+use Rattle.entry.proofs.Laws.{laws}
+use borrow.Author.Rules.{rules}
+use Rattle.entry.proofs.path_of.Goals as goal
+
+pub returns-then-records-i : goal.returns-then-records-i
+returns-then-records-i c = search (laws, rules)
+
+pub returns-then-end-start : goal.returns-then-end-start
+returns-then-end-start c = search (laws, rules)
+
+pub returns-then-paths-end : goal.returns-then-paths-end
+returns-then-paths-end c = search (laws, rules)
+
+pub returns : goal.returns
+returns c = search (laws, rules)

@@ -1,0 +1,12 @@
+-- `sha1_hash::rounds_maj` meets its contract: each turn of the loop is two rounds of `run_maj`, and the next run goes on where they end. Assumes nothing.
+use Rattle.std.proofs.Common.{◌-◌, refl, arith, rules}
+use Rattle.sha1_hash.specs.Sha1.{extend, five, rounds}
+use Rattle.sha1_hash.proofs.Laws.{run_maj}
+use Rattle.sha1_hash.proofs.Window.{repeated, Left, left_later, left_more, left_next, left_long}
+use Rattle.sha1_hash.proofs.rounds_maj.Given as goal
+
+abbrev pub invariant-loop-t : goal.invariant-loop-t
+invariant-loop-t l = Left 40 (rounds (extend 40 (repeated 40 l.initial.w)) 40 40 (five l.initial.v)) l.v l.w l.t
+
+abbrev pub decreases-loop-t : goal.decreases-loop-t
+decreases-loop-t l = 60 - l.t
