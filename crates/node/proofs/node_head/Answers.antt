@@ -1,5 +1,6 @@
 -- `node::node_head` meets its contract. The NUL that ends the name lies before the end, so that the place behind it fits. Assumes nothing.
 use Rattle.node.proofs.Laws.{heads, stop_less}
+use mathlib.Core.Path.{refl}
 use native.Mathlib.Omega.{arith}
 use borrow.Author.Rules.{rules}
 use Rattle.node.proofs.node_head.Goals as goal
@@ -17,7 +18,7 @@ pub enum_known-name : goal.enum_known-name
 enum_known-name c = search (heads, rules)
 
 pub overflow_add-stop : goal.overflow_add-stop
-overflow_add-stop c = omega (arith, stop_less _ _ _ _ _ c.first_nul-name.ensures c.name-1.given.1)
+overflow_add-stop c = omega (arith, stop_less _ _ _ _ _ c.in-With.ensures refl)
 
 pub signed_digits-c-requires : goal.signed_digits-c-requires
 signed_digits-c-requires c = search (heads, rules)
