@@ -84,6 +84,7 @@ module _ (rs : List ℕ) (ps : Paths) (key : List ℕ) (stage : ℕ) where
       by : (r : Found) → Halved (probe_at rs ps key stage) (records_in rs) r → r ≡ NoStage → ⊥
       by (At i k) h q = let z : ◌≡◌ {A = ℕ} 0 1 = cc in omega arith
       by (Absent k) h q = let z : ◌≡◌ {A = ℕ} 0 1 = cc in omega arith
+      by NoStage h q = elim h [ ]
       by (PathOutside i) h q = let z : ◌≡◌ {A = ℕ} 0 1 = cc in omega arith
 
   outside_lies : (i : ℕ) → i < records_in rs → probe_at rs ps key stage i ≡ Outside → Lies rs ps i → ⊥
@@ -182,6 +183,7 @@ module _ (rs : List ℕ) (ps : Paths) (sorted : StrictlySorted rs ps) where
           by : (r : Found) → Halved (probe_at rs ps key stage) (records_in rs) r → lookup_at rs ps key stage ≡ r → (k : ℕ) × (lookup_at rs ps key stage ≡ Absent k)
           by (At i k) (halved_at _ _ h e) q = absurd (none i (equal_has i h e))
           by (Absent k) (halved_absent _) q = (k, q)
+          by NoStage h q = elim h [ ]
           by (PathOutside i) (halved_outside _ h e) q = absurd (never_outside i h e)
 
       -- found i: record i has them

@@ -59,9 +59,13 @@ precedes_transitive (by_path p) (by_stage q) = by_path p
 precedes_transitive (by_stage p) (by_path q) = by_path q
 precedes_transitive (by_stage {g = g} p) (by_stage {h = m} q) = let l : g < m = omega arith in by_stage l
 
+-- said of two records, since one that stands on both sides cannot be taken apart
+precedes_apart : {a b : List ℕ} {g h : ℕ} → Precedes a g b h → a ≡ b → g ≡ h → ⊥
+precedes_apart (by_path {b = b} p) e f = irreflexive (subst (λ (z : List ℕ). Before z b) e p)
+precedes_apart (by_stage p) e f = omega arith
+
 pub precedes_irreflexive : {a : List ℕ} {g : ℕ} → Precedes a g a g → ⊥
-precedes_irreflexive (by_path p) = irreflexive p
-precedes_irreflexive (by_stage p) = omega arith
+precedes_irreflexive p = precedes_apart p refl refl
 
 -- ---- the walk decides the relation
 

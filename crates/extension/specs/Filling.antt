@@ -215,6 +215,8 @@ fault_inside s from end place e h i = by (subst (SaysAll s from end) e (all_says
 -- the body that is answered lies in the space
 pub body_inside : {s : List ℕ} {end at : ℕ} {fs : List Found} {e : Ending} {wanted : ℕ} {f : Found} → Chain s end at fs e → LastSigned wanted fs f
     → (at + extension_header_size ≤ f.start.0) × (f.start.0 ≤ f.stop.0) × (f.stop.0 ≤ end) × (end ≤ length s)
+body_inside (chain_filled _ _) l = elim l [ ]
+body_inside (chain_stray _ _) l = elim l [ ]
 body_inside {s} {end} {at} (chain_more {f = f} w c) (this x n) =
     let p : f.start.0 ≡ at + extension_header_size = ap (λ (y : FileAt). y.0) w.starts in
     let q : f.stop.0 ≡ at + extension_header_size + be_at 4 s (at + 4) = ap (λ (y : FileAt). y.0) w.stops in

@@ -156,8 +156,8 @@ pub data SaysLast (S : List ℕ) (at : ℕ) (es : List Ext) : Option (ℕ × Lis
   last_is : {place : ℕ} {body : List ℕ} → LastSigned S at es place body → SaysLast S at es (some (place, body))
   none_is : NoneSigned S es → SaysLast S at es nothing
 
-last_further : {S : List ℕ} {at place : ℕ} {es : List Ext} {body : List ℕ} (e : Ext) → LastSigned S (at + (extension_header + length e.body)) es place body → LastSigned S at (e ∷ es) place body
-last_further {S} {at} {es = es} e (last_signed before {e = d} behind i j x) =
+last_further : {S : List ℕ} {at : ℕ} (e : Ext) {place : ℕ} {es : List Ext} {body : List ℕ} → LastSigned S (at + (extension_header + length e.body)) es place body → LastSigned S at (e ∷ es) place body
+last_further {S} {at} e {es = es} (last_signed before {e = d} behind i j x) =
     let k : at + bytes_of (e ∷ before) + extension_header ≡ at + (extension_header + length e.body) + bytes_of before + extension_header = omega arith in
     subst (λ (p : ℕ). LastSigned S at (e ∷ es) p d.body) k (last_signed (e ∷ before) behind (ap (λ (l : List Ext). e ∷ l) i) j x)
 

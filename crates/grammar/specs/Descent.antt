@@ -76,7 +76,7 @@ closed {n} {root} {k = k} {body} {x} (in_node {p = p} {k₀ = k₀} {m = m} {lef
           (further s whole (l ∙ ap (λ (c : List ℕ). h ++ c) i ∙ sym (append_assoc h b x))),
     )
 
-standing : {n k : ℕ} {body x : List ℕ} {g : Group} {around : List Group} (root : ℕ) → Walked n body k x g around → (place : ℕ) × Standing n root body place k x g around
+standing : {n : ℕ} {body : List ℕ} {k : ℕ} {x : List ℕ} {g : Group} {around : List Group} (root : ℕ) → Walked n body k x g around → (place : ℕ) × Standing n root body place k x g around
 standing root begins = (root + 0, in_root {ts = childless} no_node refl refl refl refl refl)
 standing root (head {k = k} {h = h} {v = v} w x i) =
     let (p, s) = standing root w in
@@ -108,13 +108,13 @@ only_root : {n p d k : ℕ} {x : List ℕ} → ComesAmong n p 1 x d k → Comes 
 only_root (in_this c) = c
 only_root (past y i c e) = absurd (omega (arith, some_left c))
 
-out : {n root p k left d e j i : ℕ} {body x : List ℕ} {came : List (List ℕ)} {around : List Group} → Standing n root body p k x (group left came) around → ComesAmong n p left x d j
+out : {n root : ℕ} {body : List ℕ} {p k left d e j i : ℕ} {x : List ℕ} {came : List (List ℕ)} {around : List Group} → Standing n root body p k x (group left came) around → ComesAmong n p left x d j
     → e ≡ length around + d → i ≡ k + j → Comes n root body e i
-out {n} {root} {d = d} {e} {j} {i} {body} (in_root {ts = ts} xs b₁ t₁ f g h) c a b =
+out {n} {root} {body} {d = d} {e} {j} {i} (in_root {ts = ts} xs b₁ t₁ f g h) c a b =
     let a₁ : e ≡ d = omega arith in
     let b₂ : i ≡ nodes_of ts + j = omega arith in
     rw a₁ (only_root (past_all xs c g t₁ b₁ b₂))
-out {n} {root} {d = d} {e} {j} {i} {body} (in_node {k₀ = k₀} {ts = ts} {around = around} s w l xs y t₁ f g h) c a b =
+out {n} {root} {body} {d = d} {e} {j} {i} (in_node {k₀ = k₀} {ts = ts} {around = around} s w l xs y t₁ f g h) c a b =
     let a₁ : e ≡ length around + suc d = omega arith in
     let b₁ : i ≡ k₀ + suc (nodes_of ts + j) = omega arith in
     out s (in_this (below w l (past_all xs c g t₁ y refl))) a₁ b₁
