@@ -1,7 +1,7 @@
 -- Laws of `join`, `fill_up`, `feed` and `finish`: what the code leaves in a digest is what `feed_state` says. Assumes nothing.
-use Rattle.std.proofs.Common.{◌≡◌, ℕ, ◌+◌, ◌-◌, ◌*◌, ◌/◌, ◌%◌, ◌^◌, ◌<◌, ◌≤◌, List, [], ◌∷◌, ◌++◌, length, take, drop, set, replicate, sym, refl, ap, ◌∙◌, append_assoc, append-nil, zero-add, add-one, arith, length-append, length-drop, take-append-drop, drop_of_length-le, length-take-le, take_all, drop-drop, take_at}
+use Rattle.std.proofs.Common.{◌≡◌, ℕ, ◌+◌, ◌-◌, ◌*◌, ◌/◌, ◌%◌, ◌^◌, ◌<◌, ◌≤◌, List, [], ◌∷◌, ◌++◌, length, take, drop, set, replicate, sym, ap, ◌∙◌, append_assoc, append-nil, add-one, arith, length-append, length-drop, take-append-drop, drop_of_length-le, length-take-le, take_all, drop-drop, take_at}
 use lib.ListN.{length-replicate}
-use lib.Seq.{paste, take-paste, length-paste, length_paste_head, drop-length, take-length}
+use lib.Seq.{paste, take-paste, length-paste, drop-length, take-length}
 use Rattle.wire.specs.BigEndian.{bytes_of, length-bytes}
 use Rattle.laws.specs.Lists.{length_part, take-replicate}
 use Rattle.sha1_hash.specs.Sha1.{compress, hash_blocks, hash_all, zeros_of, padding}

@@ -1,5 +1,4 @@
-use Rattle.std.proofs.Common.{◌≡◌, ◌-◌, ◌≤◌, refl, arith, rules}
-use Rattle.sha1_hash.specs.Sha1.{extend, five, rounds}
+use Rattle.std.proofs.Common.{refl, rules}
 use Rattle.sha1_hash.proofs.Window.{given_more, given_end}
 use Rattle.sha1_hash.proofs.all_rounds.Goals as goal
 

@@ -1,7 +1,6 @@
 -- `sha1_hash::all_rounds` meets its contract: each turn of the loop is a round with a word of the window, and the next run goes on where they end. Assumes nothing.
-use Rattle.std.proofs.Common.{◌≡◌, ◌-◌, ◌≤◌, refl, arith, rules}
+use Rattle.std.proofs.Common.{◌≡◌, ◌-◌, ◌≤◌}
 use Rattle.sha1_hash.specs.Sha1.{extend, five, rounds}
-use Rattle.sha1_hash.proofs.Window.{given_more, given_end}
 use Rattle.sha1_hash.proofs.all_rounds.Given as goal
 
 abbrev pub invariant-loop-t : goal.invariant-loop-t

@@ -1,4 +1,4 @@
-use Rattle.std.proofs.Common.{◌≡◌, ℕ, ◌+◌, ◌-◌, ◌*◌, ◌≤◌, drop, ap, arith, rules}
+use Rattle.std.proofs.Common.{ℕ, drop, ap, arith, rules}
 use native.Mathlib.Nat.{sub-zero}
 use Rattle.sha1_hash.specs.Sha1.{hash_blocks}
 use Rattle.sha1_hash.proofs.Laws.{blocks_more, blocks_end}

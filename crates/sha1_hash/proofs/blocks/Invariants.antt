@@ -1,8 +1,6 @@
 -- `sha1_hash::blocks` meets its contract. The loop's invariant: hashing the blocks that are left, from the present hash value, gives what hashing all gives. Assumes nothing.
-use Rattle.std.proofs.Common.{◌≡◌, ℕ, ◌+◌, ◌-◌, ◌*◌, ◌≤◌, drop, ap, arith, rules}
-use native.Mathlib.Nat.{sub-zero}
+use Rattle.std.proofs.Common.{◌≡◌, ◌+◌, ◌-◌, ◌*◌, ◌≤◌, drop}
 use Rattle.sha1_hash.specs.Sha1.{hash_blocks}
-use Rattle.sha1_hash.proofs.Laws.{blocks_more, blocks_end}
 use Rattle.sha1_hash.proofs.blocks.Given as goal
 
 abbrev pub invariant-loop-i : goal.invariant-loop-i

@@ -4,4 +4,4 @@ use Rattle.sha1_hash.proofs.Window.{next_repeated}
 use Rattle.sha1_hash.proofs.renew.Goals as goal
 
 pub returns : goal.returns
-returns c = (search (next_repeated, rules), refl)
+returns c = record { value = search (next_repeated, rules); w_after = refl }

@@ -1,7 +1,6 @@
-use Rattle.std.proofs.Common.{◌-◌, arith, rules}
-use Rattle.sha1_hash.specs.Sha1.{extend, five, rounds}
+use Rattle.std.proofs.Common.{arith, rules}
 use Rattle.sha1_hash.proofs.Laws.{run_ch}
-use Rattle.sha1_hash.proofs.Window.{Left, left_first, left_more, left_next, left_long}
+use Rattle.sha1_hash.proofs.Window.{left_first, left_more, left_next, left_long}
 use Rattle.sha1_hash.proofs.rounds_ch.Goals as goal
 
 pub loop-t-init : goal.loop-t-init
@@ -11,12 +10,12 @@ pub renew-requires : goal.renew-requires
 renew-requires c = (c.loop-t.invariant.stand.held.long, (omega arith, omega arith))
 
 pub renew-requires-in-loop-t : goal.renew-requires-in-loop-t
-renew-requires-in-loop-t c = (left_long c.loop-t.invariant c.renew.result c.renew.ensures.1, (omega arith, omega arith))
+renew-requires-in-loop-t c = (left_long c.loop-t.invariant c.renew.result c.renew.ensures.w_after, (omega arith, omega arith))
 
 pub loop-t-preserved : goal.loop-t-preserved
 loop-t-preserved c = left_more run_ch c.loop-t-test.true c.loop-t.invariant
-    c.ch.ensures c.renew.ensures.0 c.renew.ensures.1 c.turn-between.ensures
-    c.ch-in-loop-t.ensures c.renew-in-loop-t.ensures.0 c.renew-in-loop-t.ensures.1 c.turn-next.ensures
+    c.ch.ensures c.renew.ensures.value c.renew.ensures.w_after c.turn-between.ensures
+    c.ch-in-loop-t.ensures c.renew-in-loop-t.ensures.value c.renew-in-loop-t.ensures.w_after c.turn-next.ensures
 
 pub rounds_parity-requires : goal.rounds_parity-requires
 rounds_parity-requires c = c.loop-t.invariant.stand.held.long

@@ -1,8 +1,7 @@
 -- `sha1_hash::rounds_ch` meets its contract: each turn of the loop is two rounds of `run_ch`, and the next run goes on where they end. Assumes nothing.
-use Rattle.std.proofs.Common.{◌-◌, arith, rules}
+use Rattle.std.proofs.Common.{◌-◌}
 use Rattle.sha1_hash.specs.Sha1.{extend, five, rounds}
-use Rattle.sha1_hash.proofs.Laws.{run_ch}
-use Rattle.sha1_hash.proofs.Window.{Left, left_first, left_more, left_next, left_long}
+use Rattle.sha1_hash.proofs.Window.{Left}
 use Rattle.sha1_hash.proofs.rounds_ch.Given as goal
 
 abbrev pub invariant-loop-t : goal.invariant-loop-t

@@ -1,7 +1,6 @@
-use Rattle.std.proofs.Common.{◌-◌, refl, arith, rules}
-use Rattle.sha1_hash.specs.Sha1.{extend, five, rounds}
+use Rattle.std.proofs.Common.{refl, arith, rules}
 use Rattle.sha1_hash.proofs.Laws.{run_maj}
-use Rattle.sha1_hash.proofs.Window.{repeated, Left, left_later, left_more, left_next, left_long}
+use Rattle.sha1_hash.proofs.Window.{left_later, left_more, left_next, left_long}
 use Rattle.sha1_hash.proofs.rounds_maj.Goals as goal
 
 pub loop-t-init : goal.loop-t-init
@@ -11,12 +10,12 @@ pub renew-requires : goal.renew-requires
 renew-requires c = (c.loop-t.invariant.stand.held.long, (omega arith, omega arith))
 
 pub renew-requires-in-loop-t : goal.renew-requires-in-loop-t
-renew-requires-in-loop-t c = (left_long c.loop-t.invariant c.renew.result c.renew.ensures.1, (omega arith, omega arith))
+renew-requires-in-loop-t c = (left_long c.loop-t.invariant c.renew.result c.renew.ensures.w_after, (omega arith, omega arith))
 
 pub loop-t-preserved : goal.loop-t-preserved
 loop-t-preserved c = left_more run_maj c.loop-t-test.true c.loop-t.invariant
-    c.maj.ensures c.renew.ensures.0 c.renew.ensures.1 c.turn-between.ensures
-    c.maj-in-loop-t.ensures c.renew-in-loop-t.ensures.0 c.renew-in-loop-t.ensures.1 c.turn-next.ensures
+    c.maj.ensures c.renew.ensures.value c.renew.ensures.w_after c.turn-between.ensures
+    c.maj-in-loop-t.ensures c.renew-in-loop-t.ensures.value c.renew-in-loop-t.ensures.w_after c.turn-next.ensures
 
 pub rounds_last-requires : goal.rounds_last-requires
 rounds_last-requires c = c.loop-t.invariant.stand.held.long

@@ -1,8 +1,7 @@
 -- `sha1_hash::rounds_maj` meets its contract: each turn of the loop is two rounds of `run_maj`, and the next run goes on where they end. Assumes nothing.
-use Rattle.std.proofs.Common.{◌-◌, refl, arith, rules}
+use Rattle.std.proofs.Common.{◌-◌}
 use Rattle.sha1_hash.specs.Sha1.{extend, five, rounds}
-use Rattle.sha1_hash.proofs.Laws.{run_maj}
-use Rattle.sha1_hash.proofs.Window.{repeated, Left, left_later, left_more, left_next, left_long}
+use Rattle.sha1_hash.proofs.Window.{repeated, Left}
 use Rattle.sha1_hash.proofs.rounds_maj.Given as goal
 
 abbrev pub invariant-loop-t : goal.invariant-loop-t

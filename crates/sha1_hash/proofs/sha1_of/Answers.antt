@@ -1,5 +1,5 @@
 -- `sha1_hash::sha1_of` meets its contract: `new` stands for no bytes, `feed` then for the slice, and `finish` gives its SHA-1. Assumes nothing.
-use Rattle.std.proofs.Common.{[], ap, ◌∙◌, rules}
+use Rattle.std.proofs.Common.{[], ap, ◌∙◌}
 use Rattle.sha1_hash.specs.Pieces.{fed, finished}
 use Rattle.sha1_hash.specs.declared.Digest.{Digest}
 use Rattle.sha1_hash.specs.Theorems.{fed_after, finished_after}

@@ -1,5 +1,4 @@
 -- `sha1_hash::sum` meets its contract: four sums, each modulo 2 ^ 32, are one sum modulo 2 ^ 32. Assumes nothing.
-use Rattle.std.proofs.Common.{rules}
 use Rattle.sha1_hash.specs.Sha1.{rotl}
 use Rattle.sha1_hash.proofs.Laws.{sum-five}
 use Rattle.sha1_hash.proofs.sum.Goals as goal

@@ -1,4 +1,4 @@
-use Rattle.std.proofs.Common.{◌≡◌, ◌-◌, ◌≤◌, length, take, drop, refl, rules}
+use Rattle.std.proofs.Common.{refl, rules}
 use Rattle.sha1_hash.specs.Sha1.{words_of}
 use Rattle.sha1_hash.proofs.Laws.{words_more, words_end}
 use Rattle.sha1_hash.proofs.words.Goals as goal

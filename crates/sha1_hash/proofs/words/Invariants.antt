@@ -1,7 +1,6 @@
 -- `sha1_hash::words` meets its contract. Each turn of the loop puts a word more of the block. Assumes nothing.
-use Rattle.std.proofs.Common.{◌≡◌, ◌-◌, ◌≤◌, length, take, drop, refl, rules}
+use Rattle.std.proofs.Common.{◌≡◌, ◌-◌, ◌≤◌, length, take, drop}
 use Rattle.sha1_hash.specs.Sha1.{words_of}
-use Rattle.sha1_hash.proofs.Laws.{words_more, words_end}
 use Rattle.sha1_hash.proofs.words.Given as goal
 
 abbrev pub invariant-loop-t : goal.invariant-loop-t
