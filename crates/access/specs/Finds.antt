@@ -200,4 +200,5 @@ module _ (rs : List ℕ) (ps : Paths) (sorted : StrictlySorted rs ps) where
           by : (r : Found) → Halved (probe_at rs ps key stage) (records_in rs) r → lookup_at rs ps key stage ≡ r → (k : ℕ) × (lookup_at rs ps key stage ≡ At i k)
           by (At j k) (halved_at _ _ l e) q = let same : j ≡ i = at_most_one key stage j i (equal_has j l e) h in (k, q ∙ ap (λ (x : ℕ). At x k) same)
           by (Absent k) (halved_absent _) q = absurd (absent_then_none k q i h)
+          by NoStage l q = elim l [ ]
           by (PathOutside j) (halved_outside _ l e) q = absurd (never_outside j l e)

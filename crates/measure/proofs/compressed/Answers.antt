@@ -1,5 +1,6 @@
 -- `measure::compressed` meets its contract. Assumes nothing.
 use native.Mathlib.Omega.{arith}
+use mathlib.Core.Path.{refl}
 use borrow.Author.Rules.{rules}
 use Rattle.measure.proofs.Laws.{cut_small, laws}
 use Rattle.measure.proofs.compressed.Goals as goal
@@ -14,7 +15,7 @@ pub enum_known-n : goal.enum_known-n
 enum_known-n c = search (laws, rules)
 
 pub overflow_mul-a : goal.overflow_mul-a
-overflow_mul-a c = omega (arith, cut_small _ _ _ _ _ c.seven_bit-n.ensures c.n-1.given.1)
+overflow_mul-a c = omega (arith, cut_small _ _ _ _ _ c.in-Cut.ensures refl)
 
 pub bytes_kept-least-requires : goal.bytes_kept-least-requires
 bytes_kept-least-requires c = search (laws, rules)

@@ -1,5 +1,6 @@
 -- `measure::measure` meets its contract. Assumes nothing.
 use native.Mathlib.Omega.{arith}
+use mathlib.Core.Path.{refl}
 use borrow.Author.Rules.{rules}
 use Rattle.measure.specs.Inside.{head_room, heads}
 use Rattle.measure.proofs.Laws.{laws}
@@ -18,7 +19,7 @@ pub enum_known-h : goal.enum_known-h
 enum_known-h c = search (laws, rules)
 
 pub overflow_add-a : goal.overflow_add-a
-overflow_add-a c = omega (arith, head_room _ _ _ _ _ _ _ c.read_head-h.ensures c.h-1.given.1)
+overflow_add-a c = omega (arith, head_room _ _ _ _ _ _ _ c.in-Fixed.ensures refl)
 
 pub compressed-requires : goal.compressed-requires
 compressed-requires c = search (heads, rules)

@@ -1,5 +1,6 @@
 -- `measure::padded` meets its contract. Assumes nothing.
 use native.Mathlib.Omega.{arith}
+use mathlib.Core.Path.{refl}
 use borrow.Author.Rules.{rules}
 use Rattle.measure.proofs.Laws.{nul_below, laws}
 use Rattle.measure.proofs.padded.Goals as goal
@@ -20,7 +21,7 @@ pub overflow_sub-z : goal.overflow_sub-z
 overflow_sub-z c = search (laws, rules)
 
 pub padded_to-requires : goal.padded_to-requires
-padded_to-requires c = omega (arith, nul_below _ _ _ _ _ c.first_nul-n.ensures c.n-1.given.1)
+padded_to-requires c = omega (arith, nul_below _ _ _ _ _ c.in-With.ensures refl)
 
 pub padded_to-requires-else-field-eq-LONG_PATH : goal.padded_to-requires-else-field-eq-LONG_PATH
 padded_to-requires-else-field-eq-LONG_PATH c = search (laws, rules)

@@ -1,5 +1,6 @@
 -- `measure::read_extended` meets its contract. Assumes nothing.
 use native.Mathlib.Omega.{arith}
+use mathlib.Core.Path.{refl}
 use borrow.Author.Rules.{rules}
 use Rattle.measure.proofs.Laws.{extended_small, laws}
 use Rattle.measure.proofs.read_extended.Goals as goal
@@ -44,7 +45,7 @@ pub enum_known-whole : goal.enum_known-whole
 enum_known-whole c = search (laws, rules)
 
 pub overflow_add-result : goal.overflow_add-result
-overflow_add-result c = omega (arith, extended_small _ _ _ c.extended_to_memory-whole.ensures c.whole-1.given.1)
+overflow_add-result c = omega (arith, extended_small _ _ _ c.in-Kept-whole.ensures refl)
 
 pub returns-in-Unknown-whole : goal.returns-in-Unknown-whole
 returns-in-Unknown-whole c = search (laws, rules)

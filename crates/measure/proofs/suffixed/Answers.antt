@@ -1,5 +1,6 @@
 -- `measure::suffixed` meets its contract. Assumes nothing.
 use native.Mathlib.Omega.{arith}
+use mathlib.Core.Path.{refl}
 use borrow.Author.Rules.{rules}
 use Rattle.measure.proofs.Laws.{nul_below, laws}
 use Rattle.measure.proofs.suffixed.Goals as goal
@@ -17,7 +18,7 @@ pub overflow_sub-result : goal.overflow_sub-result
 overflow_sub-result c = search (laws, rules)
 
 pub overflow_add-result : goal.overflow_add-result
-overflow_add-result c = omega (arith, nul_below _ _ _ _ _ c.first_nul-t.ensures c.t-1.given.1)
+overflow_add-result c = omega (arith, nul_below _ _ _ _ _ c.in-With.ensures refl)
 
 pub returns-in-Never : goal.returns-in-Never
 returns-in-Never c = search (laws, rules)

@@ -1,6 +1,7 @@
 -- `access::order::compare` meets its contract. Eight bytes stand as the numbers that they spell. Assumes nothing.
 use Rattle.access.proofs.Laws.{laws, numbers_less, numbers_greater}
 use native.Mathlib.Omega.{arith}
+use mathlib.Core.Path.{refl}
 use borrow.Author.Rules.{rules}
 use Rattle.access.proofs.order.compare.Goals as goal
 
@@ -17,7 +18,7 @@ pub be64-behind-requires : goal.be64-behind-requires
 be64-behind-requires c = search (laws, rules)
 
 pub returns-then-ahead-behind : goal.returns-then-ahead-behind
-returns-then-ahead-behind c = numbers_less _ _ _ _ c.pass_eights-passed.ensures c.passed-1.given.1 _ _ c.be64-ahead.ensures c.be64-behind.ensures (λ i. omega (arith, c.shared_slice_known-1.given i)) (λ i. omega (arith, c.shared_slice_known-2-1.given i)) c.if-ahead-behind.true
+returns-then-ahead-behind c = numbers_less _ _ _ _ c.in-DifferAt.ensures refl _ _ c.be64-ahead.ensures c.be64-behind.ensures (λ i. omega (arith, c.shared_slice_known-1.given i)) (λ i. omega (arith, c.shared_slice_known-2-1.given i)) c.if-ahead-behind.true
 
 pub enum_known-passed-in-AgreeTo-1 : goal.enum_known-passed-in-AgreeTo-1
 enum_known-passed-in-AgreeTo-1 c = search (laws, rules)
@@ -26,7 +27,7 @@ pub compare_from-requires : goal.compare_from-requires
 compare_from-requires c = search (laws, rules)
 
 pub returns-else-ahead-behind : goal.returns-else-ahead-behind
-returns-else-ahead-behind c = numbers_greater _ _ _ _ c.pass_eights-passed.ensures c.passed-1.given.1 _ _ c.be64-ahead.ensures c.be64-behind.ensures (λ i. omega (arith, c.shared_slice_known-1.given i)) (λ i. omega (arith, c.shared_slice_known-2-1.given i)) c.if-ahead-behind.false
+returns-else-ahead-behind c = numbers_greater _ _ _ _ c.in-DifferAt.ensures refl _ _ c.be64-ahead.ensures c.be64-behind.ensures (λ i. omega (arith, c.shared_slice_known-1.given i)) (λ i. omega (arith, c.shared_slice_known-2-1.given i)) c.if-ahead-behind.false
 
 pub returns-in-AgreeTo : goal.returns-in-AgreeTo
 returns-in-AgreeTo c = search (laws, rules)
