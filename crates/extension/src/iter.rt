@@ -5,7 +5,7 @@ ghost use Rattle.extension.specs.Iter.{step_at, first_at};
 use wire::FileAt;
 
 // The part of the file from `at` up to `end` that is still to be walked.
-#[derive(Drop)]
+#[derive(Clone, Copy)]
 pub struct Cursor {
     pub at: FileAt,
     pub end: FileAt,

@@ -12,7 +12,7 @@ pub const MOST_RUNS: usize = 2048;
 
 // How many runs there are. The last child left of each, or 0, is kept in a lent store, their tails, and beside it where what stands below that child ends.
 // Not quick where nothing is known of the tails.
-#[derive(Drop)]
+#[derive(Clone, Copy)]
 pub struct Runs {
     pub quick: bool,
     pub used: usize,

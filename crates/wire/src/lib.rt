@@ -11,10 +11,10 @@ ghost use Rattle.wire.specs.Written.{digits_of};
 ghost use Rattle.wire.specs.Digits.{grown, digits_in, unsigned_at, plain, negated, signed_at};
 
 // A place in the file, and a place in the path store: neither is ever taken for the other.
-#[derive(Drop)]
+#[derive(Clone, Copy)]
 pub struct FileAt(pub usize);
 
-#[derive(Drop)]
+#[derive(Clone, Copy)]
 pub struct PathAt(pub usize);
 
 fn cat16(a: u8, b: u8) -> u16

@@ -1,0 +1,42 @@
+-- `lines::put_line` meets its contract. The head, the path and the line's end, each right behind the one before, are one put of the line. Assumes nothing.
+use native.Mathlib.Omega.{arith}
+use lib.ListN.{length-set}
+use Rattle.lines.proofs.Laws.{laws, line_room}
+use borrow.Author.Rules.{rules}
+use Rattle.lines.proofs.put_line.Goals as goal
+
+pub mode_at-mode-requires : goal.mode_at-mode-requires
+mode_at-mode-requires c = search (laws, rules)
+
+pub id_at-id-requires : goal.id_at-id-requires
+id_at-id-requires c = search (laws, rules)
+
+pub stage_at-stage-requires : goal.stage_at-stage-requires
+stage_at-stage-requires c = search (laws, rules)
+
+pub path_of-path-requires : goal.path_of-path-requires
+path_of-path-requires c = search (laws, rules)
+
+pub put_head-requires : goal.put_head-requires
+put_head-requires c = search (laws, rules)
+
+pub overflow_add-body : goal.overflow_add-body
+overflow_add-body c = search (laws, rules)
+
+pub copy_bytes-requires : goal.copy_bytes-requires
+copy_bytes-requires c = (search rules, omega (arith, line_room _ _ _ _ c.path_of-path.ensures _ _ c.requires))
+
+pub overflow_add-last : goal.overflow_add-last
+overflow_add-last c = omega (arith, line_room _ _ _ _ c.path_of-path.ensures _ _ c.requires)
+
+pub bounds-out-last : goal.bounds-out-last
+bounds-out-last c = omega (arith, line_room _ _ _ _ c.path_of-path.ensures _ _ c.requires)
+
+pub overflow_add-result : goal.overflow_add-result
+overflow_add-result c = omega (arith, line_room _ _ _ _ c.path_of-path.ensures _ _ c.requires)
+
+pub shape_of-out : goal.shape_of-out
+shape_of-out c = simp length-set (omega arith)
+
+pub returns : goal.returns
+returns c = search (laws, rules)

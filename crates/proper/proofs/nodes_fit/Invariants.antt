@@ -1,0 +1,14 @@
+-- `proper::nodes_fit` meets its contract. The invariant: the test of the nodes that are left answers what the whole answers. Assumes nothing.
+use Prim.Native.Nat.{◌-◌}
+use mathlib.Core.Path.{◌≡◌}
+use Rattle.format.specs.Format.{depth_limit}
+use Rattle.proper.specs.Proper.{all_in, node_fits, nodes_fit}
+use borrow.Author.Rules.{rules}
+use Rattle.proper.proofs.Fits.{fits}
+use Rattle.proper.proofs.nodes_fit.Given as goal
+
+abbrev pub invariant-loop-i : goal.invariant-loop-i
+invariant-loop-i l = all_in (node_fits depth_limit l.nodes l.names) (l.n - l.i) l.i ≡ nodes_fit depth_limit l.nodes l.names
+
+abbrev pub decreases-loop-i : goal.decreases-loop-i
+decreases-loop-i l = l.n - l.i

@@ -1,0 +1,19 @@
+-- `tree_write::node_size` meets its contract. The measure is the depth. The loop's invariant: the size so far and that of the children that are left make up the whole. Assumes nothing.
+use Prim.Native.Nat.{◌-◌}
+use lib.ListN.{length}
+use Rattle.sums.specs.Cap.{cap}
+use Rattle.format.specs.Format.{id_size}
+use Rattle.tree_write.specs.Tree.{node_bytes}
+use borrow.Author.Rules.{rules}
+use Rattle.tree_write.proofs.Laws.{Adding, size-laws}
+use Prim.Native.Nat.{ℕ, ◌<◌}
+use Rattle.tree_write.proofs.+node_size.Given as goal
+
+abbrev pub decreases-node_size : goal.decreases-node_size
+decreases-node_size l = l.depth
+
+abbrev pub invariant-loop-j : goal.invariant-loop-j
+invariant-loop-j l = Adding l.nodes l.names l.below l.me l.n l.j l.size (cap (length (node_bytes id_size l.nodes l.names l.depth l.me)))
+
+abbrev pub decreases-loop-j : goal.decreases-loop-j
+decreases-loop-j l = l.n - l.j

@@ -1,0 +1,22 @@
+use Rattle.tree_write.proofs.Merge.{Listing}
+use borrow.Author.Rules.{rules}
+use Rattle.tree_write.proofs.Merge.{runs-laws}
+use Rattle.tree_write.proofs.runs.listed.Goals as goal
+
+pub loop-c-init : goal.loop-c-init
+loop-c-init c = search (runs-laws, rules)
+
+pub loop-c-smaller-then-comes_between : goal.loop-c-smaller-then-comes_between
+loop-c-smaller-then-comes_between c = search (runs-laws, rules)
+
+pub loop-c-preserved-then-comes_between : goal.loop-c-preserved-then-comes_between
+loop-c-preserved-then-comes_between c = search (runs-laws, rules)
+
+pub loop-c-smaller : goal.loop-c-smaller
+loop-c-smaller c = search (runs-laws, rules)
+
+pub loop-c-preserved : goal.loop-c-preserved
+loop-c-preserved c = search (runs-laws, rules)
+
+pub returns : goal.returns
+returns c = search (runs-laws, rules)

@@ -1,0 +1,11 @@
+use Prim.Native.Nat.{◌-◌}
+use borrow.Author.Rules.{rules}
+use Rattle.entry.specs.Paths.{lying_in}
+use Rattle.write_entries.proofs.Laws.{laws, Filling}
+use Rattle.write_entries.proofs.put_entries.Given as goal
+
+abbrev pub invariant-loop-i : goal.invariant-loop-i
+invariant-loop-i l = Filling l.records (lying_in l.paths) l.initial.out l.from l.n l.out l.at l.i
+
+abbrev pub decreases-loop-i : goal.decreases-loop-i
+decreases-loop-i l = l.n - l.i
