@@ -11,7 +11,7 @@ use Rattle.format.specs.Format.{extension_header_size}
 use Rattle.extension.specs.Signatures.{TREE, sdir}
 use Rattle.extension.specs.Iter.{Found, Ending, filled, stray, run_at, body_of, of_signature, last_where}
 use Rattle.extension.specs.Decode.{is_forbidden, marks, sparse_in, judged, no_bodies, bodies_in, all_at}
-use Rattle.extension.specs.Theorems.{Chain, chain_stray, chain_more, run_chain, chain_run}
+use Rattle.extension.specs.Theorems.{Chain, chain_stray, chain_more, chain_filled, run_chain, chain_run}
 use Rattle.extension.specs.declared.iter.Body.{Body}
 use Rattle.extension.specs.declared.iter.Body.TheVariants.{Missing}
 use Rattle.extension.specs.declared.decode.Bodies.{Bodies}

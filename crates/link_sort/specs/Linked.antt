@@ -93,6 +93,7 @@ lead (link h c) (more g r) i (there m) = inr (g i m)
 
 -- of two in a rising list one comes before the other
 pub rising_pair : {R : ℕ → ℕ → Type 0} {l : List ℕ} → Rising R l → (i j : ℕ) → Mem i l → Mem j l → (i ≡ j) ⊎ (R i j ⊎ R j i)
+rising_pair done i j m n = elim m [ ]
 rising_pair (more h r) i j here here = inl refl
 rising_pair (more h r) i j here (there m) = inr (inl (h j m))
 rising_pair (more h r) i j (there m) here = inr (inr (h i m))
@@ -123,5 +124,6 @@ module _ {R : ℕ → ℕ → Type 0} where
   rising_right (x ∷ a) b (more h r) = rising_right a b r
 
   pub rising_across : (a b : List ℕ) → Rising R (a ++ b) → (i j : ℕ) → Mem i a → Mem j b → R i j
+  rising_across [] b r i j m n = elim m [ ]
   rising_across (x ∷ a) b (more h r) i j here n = h j (mem_right a n)
   rising_across (x ∷ a) b (more h r) i j (there m) n = rising_across a b r i j m n

@@ -24,7 +24,7 @@ pub overflow_add-body : goal.overflow_add-body
 overflow_add-body c = search (laws, rules)
 
 pub copy_bytes-requires : goal.copy_bytes-requires
-copy_bytes-requires c = (search rules, omega (arith, line_room _ _ _ _ c.path_of-path.ensures _ _ c.requires))
+copy_bytes-requires c = record { n_in_bounds = search rules; n_in_bounds_2 = omega (arith, line_room _ _ _ _ c.path_of-path.ensures _ _ c.requires) }
 
 pub overflow_add-last : goal.overflow_add-last
 overflow_add-last c = omega (arith, line_room _ _ _ _ c.path_of-path.ensures _ _ c.requires)

@@ -18,4 +18,4 @@ pub shape_of-out : goal.shape_of-out
 shape_of-out c = search (laws, rules)
 
 pub returns : goal.returns
-returns c = text_written _ _ _ (size_whole _ _ c.refused_size-size.ensures (omega arith)) c.if-out-size.false (omega arith) _ c.Put-refused.ensures
+returns c = text_written _ _ _ (size_whole _ _ c.refused_size-size.ensures (omega arith)) c.if-out-size.false (omega arith) _ c.put_refused.ensures

@@ -1,6 +1,7 @@
 use mathlib.Core.Path.{refl}
 use mathlib.Core.Bool.{false}
 use native.Mathlib.Omega.{arith}
+use mathlib.Core.Path.{refl}
 use borrow.Author.Rules.{rules}
 use Rattle.format.specs.Format.{id_size}
 use Rattle.decode.proofs.Laws.{State, run_size, laws}
@@ -50,7 +51,7 @@ pub returns-then-slots-i : goal.returns-then-slots-i
 returns-then-slots-i c = search (laws, rules)
 
 pub overflow_add-size : goal.overflow_add-size
-overflow_add-size c = omega (arith, c.well-formed, c.loop-left.invariant.paths, run_size _ _ _ _ _ _ _ c.loop-left.paths _ c.measure-m.ensures _ _ _ _ _ c.m-1.given.1 c.loop-left.invariant.before c.loop-left.invariant.within)
+overflow_add-size c = omega (arith, c.well_formed, c.loop-left.invariant.paths, run_size _ _ _ _ _ _ _ c.loop-left.paths _ c.in-Entry.ensures _ _ _ _ _ refl c.loop-left.invariant.before c.loop-left.invariant.within)
 
 pub overflow_sub-paths : goal.overflow_sub-paths
 overflow_sub-paths c = search (laws, rules)
@@ -71,10 +72,10 @@ pub mark-sparse-requires : goal.mark-sparse-requires
 mark-sparse-requires c = search (laws, rules)
 
 pub overflow_add-total : goal.overflow_add-total
-overflow_add-total c = omega (arith, c.well-formed, c.loop-left.invariant.paths, c.loop-left.invariant.within, c.if-paths-have.false)
+overflow_add-total c = omega (arith, c.well_formed, c.loop-left.invariant.paths, c.loop-left.invariant.within, c.if-paths-have.false)
 
 pub overflow_add-i : goal.overflow_add-i
-overflow_add-i c = omega (arith, c.if-slots-i.false, c.well-formed)
+overflow_add-i c = omega (arith, c.if-slots-i.false, c.well_formed)
 
 pub overflow_sub-left : goal.overflow_sub-left
 overflow_sub-left c = search (laws, rules)

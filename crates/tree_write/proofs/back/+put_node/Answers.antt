@@ -31,12 +31,12 @@ loop-kid-init t c = (backing_start _ _ _ _ _ _ _ _ _ _ _ c.next-kid.ensures, (re
 pub offset_bounds-tails-used : goal.offset_bounds-tails-used
 offset_bounds-tails-used t c = let loop = c.loop-kid in
     let ready = loop.invariant.0.taken.ready c.loop-kid-test.true in
-    record { fits = omega (arith, ready.few, loop.invariant.1.0, c.next-kid.auto.1.1.1.1.1.1.0, c.begin-runs.auto.1.1.1.1.1.0, c.well-formed.1.1.1.1.1.1.1.0.1) }
+    record { fits = omega (arith, ready.few, loop.invariant.1.0, c.next-kid.auto.1.1.1.1.1.1.0, c.begin-runs.auto.1.1.1.1.1.0, c.well_formed.1.1.1.1.1.1.1.0.1) }
 
 pub offset_bounds-stops-used : goal.offset_bounds-stops-used
 offset_bounds-stops-used t c = let loop = c.loop-kid in
     let ready = loop.invariant.0.taken.ready c.loop-kid-test.true in
-    record { fits = omega (arith, ready.few, ready.beside, loop.invariant.1.1.0, c.next-kid.auto.1.1.1.1.1.1.1.0, c.begin-runs.auto.1.1.1.1.1.1.0, c.well-formed.1.1.1.1.1.1.1.1.0.1) }
+    record { fits = omega (arith, ready.few, ready.beside, loop.invariant.1.1.0, c.next-kid.auto.1.1.1.1.1.1.1.0, c.begin-runs.auto.1.1.1.1.1.1.0, c.well_formed.1.1.1.1.1.1.1.1.0.1) }
 
 pub put_node-pos-requires : goal.put_node-pos-requires
 put_node-pos-requires t c = let asked = c.requires in
