@@ -42,7 +42,7 @@ pub const COUNT_HALF: u64 = 2147483648;
 const MOST_SUBTREES: u64 = 18446744073709551615;
 
 // A node's head: its name from start to stop, its id from id to next, where its subtrees begin. A negative count has no id.
-#[derive(Drop)]
+#[derive(Clone, Copy)]
 pub struct Node {
     pub start: usize,
     pub stop: usize,
