@@ -8,8 +8,12 @@ ghost use Rattle.std.specs.Prelude.{◌≤◌, ◌≡◌, length};
 
 use extension::end_of_index_entry::Told;
 use extension::index_entry_offset_table::{Offset, Table};
-use libc::{STDIN_FILENO, STDOUT_FILENO};
 use wire::FileAt;
+
+// The descriptors of standard input and output.
+const STDIN_FILENO: i32 = 0;
+
+const STDOUT_FILENO: i32 = 1;
 
 // Room for the whole list.
 fn room() -> [u8; 262144]

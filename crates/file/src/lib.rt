@@ -18,7 +18,7 @@ use tree::TreeAnswer;
 use wire::{FileAt, PathAt};
 
 // What reading a file comes to: what was read, or one refusal of 01's table, with the value that it carries.
-#[derive(Drop)]
+#[derive(Clone, Copy)]
 pub enum Answer {
     Read {
         version: u32,

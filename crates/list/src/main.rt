@@ -2,7 +2,10 @@
 
 #![tactic(auto)]
 
-use libc::{STDIN_FILENO, STDOUT_FILENO};
+// The descriptors of standard input and output.
+const STDIN_FILENO: i32 = 0;
+const STDOUT_FILENO: i32 = 1;
+
 
 // Prints the listing of a file. Every listing fits, so that no part of one is ever held back.
 fn print(file: &[u8]) {

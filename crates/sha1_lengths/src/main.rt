@@ -3,7 +3,9 @@
 
 #![tactic(auto)]
 
-use libc::STDOUT_FILENO;
+// The descriptor of standard output.
+const STDOUT_FILENO: i32 = 1;
+
 
 const LONGEST: usize = 200;
 

@@ -6,8 +6,10 @@
 ghost use Rattle.std.specs.Prelude.{◌≡◌, ◌<◌, ◌≤◌, replicate};
 ghost use Rattle.sha1_hash.specs.Sha1.{sha1};
 
-use libc::STDOUT_FILENO;
 use sha1_hash::Digest;
+
+// The descriptor of standard output.
+const STDOUT_FILENO: i32 = 1;
 
 fn write(id: [u8; 20]) {
     io::write_all(STDOUT_FILENO, &show::hex_line(id));

@@ -6,8 +6,11 @@
 
 ghost use Rattle.std.specs.Prelude.{◌≡◌, length};
 
-use libc::{STDIN_FILENO, STDOUT_FILENO};
 use tree::TreeAnswer;
+
+// The descriptors of standard input and output.
+const STDIN_FILENO: i32 = 0;
+const STDOUT_FILENO: i32 = 1;
 
 // Room for all bodies.
 fn cases_room() -> [u8; 131072]

@@ -6,9 +6,11 @@
 ghost use Rattle.std.specs.Prelude.{◌≡◌, length};
 
 use file::Answer as Got;
-use libc::STDOUT_FILENO;
 use node::Node;
 use write::{Answer, Options};
+
+// The descriptor of standard output.
+const STDOUT_FILENO: i32 = 1;
 
 // Names of the nodes, and their ids: "a" at 0, "b" at 1, a name with NUL from 19 to 22.
 const NAMES: [u8; 22] = *b"abcdefghijklmnopqrst\0x";

@@ -5,9 +5,11 @@
 #![tactic(auto)]
 
 use file::Answer as Got;
-use libc::STDOUT_FILENO;
 use node::Node;
 use write::{Answer, Options};
+
+// The descriptor of standard output.
+const STDOUT_FILENO: i32 = 1;
 
 // The nodes' names are parts of this: "a" from 0 to 1, "ab" from 0 to 2.
 const NAMES: [u8; 20] = *b"abcdefghijklmnopqrst";

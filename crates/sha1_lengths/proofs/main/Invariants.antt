@@ -1,0 +1,14 @@
+-- `sha1_lengths::main` is safe and ends: each message is a part of the longest. Assumes nothing.
+use borrow.Author.Rules.{rules}
+use mathlib.Core.Path.{◌≡◌, sym}
+use native.Mathlib.Omega.{arith}
+use Prim.Native.Nat.{◌-◌, ◌≤◌}
+use lib.ListN.{length}
+use lib.Seq.{length-take-le}
+use Rattle.sha1_lengths.proofs.main.Given as goal
+
+abbrev pub invariant-loop-n : goal.invariant-loop-n
+invariant-loop-n l = l.n ≤ 201
+
+abbrev pub decreases-loop-n : goal.decreases-loop-n
+decreases-loop-n l = 201 - l.n

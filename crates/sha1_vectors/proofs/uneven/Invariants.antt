@@ -1,0 +1,19 @@
+-- `sha1_vectors::uneven` meets its contract. The loop's invariant: the digest stands for as many bytes 'a' as are no longer left. Assumes nothing.
+use borrow.Author.Rules.{rules}
+use native.Mathlib.Omega.{arith}
+use mathlib.Core.Path.{◌≡◌, sym, ap, ◌∙◌}
+use Prim.Native.Nat.{ℕ, ◌+◌, ◌-◌, ◌≤◌, ◌<◌}
+use mathlib.Core.List.{List, ◌++◌}
+use lib.ListN.{take, replicate, replicate-append-replicate}
+use lib.Seq.{length-take-le}
+use Rattle.laws.specs.Lists.{take-replicate}
+use Rattle.sha1_hash.specs.Pieces.{digest_after, fed, finished}
+use Rattle.sha1_hash.specs.Theorems.{fed_after, finished_after}
+use Rattle.sha1_hash.specs.declared.Digest.{Digest}
+use Rattle.sha1_vectors.proofs.uneven.Given as goal
+
+abbrev pub invariant-loop-left : goal.invariant-loop-left
+invariant-loop-left l = (0 < l.size) × ((l.size ≤ 130) × ((l.left ≤ l.n) × (l.d ≡ digest_after (replicate (l.n - l.left) 97))))
+
+abbrev pub decreases-loop-left : goal.decreases-loop-left
+decreases-loop-left l = l.left
