@@ -1,8 +1,7 @@
 use native.Mathlib.Nat.{pos_of_ne-zero}
 use native.Mathlib.Omega.{arith}
 use borrow.Author.Rules.{rules}
-use Rattle.tree_write.proofs.Laws.{node_laws, kids_stop, kids_none, Writing, writing_start, writing_room, writing_more, written}
-use Prim.Native.Nat.{ℕ, ◌<◌}
+use Rattle.tree_write.proofs.Laws.{node_laws, kids_stop, kids_none, writing_start, writing_room, writing_more, written}
 use Rattle.tree_write.proofs.+put_node.Goals as goal
 
 pub returns-then-depth-eq0 : goal.returns-then-depth-eq0

@@ -2,7 +2,6 @@
 use mathlib.Core.Path.{sym, ◌∙◌}
 use native.Mathlib.Omega.{arith}
 use Rattle.tree_write.proofs.Backing.{filed_at}
-use borrow.Author.Rules.{rules}
 use Rattle.tree_write.proofs.put_merged.Goals as goal
 
 pub put_tree-requires : goal.put_tree-requires

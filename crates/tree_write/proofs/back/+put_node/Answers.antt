@@ -1,14 +1,11 @@
-use mathlib.Core.Path.{◌≡◌, refl}
+use mathlib.Core.Path.{refl}
 use Prim.Native.Nat.{◌-◌}
 use native.Mathlib.Nat.{pos_of_ne-zero}
 use native.Mathlib.Omega.{arith}
 use lib.ListN.{length}
-use Rattle.tree_write.specs.Spine.{Spine}
-use Rattle.tree_write.specs.Back.{Asked}
 use Rattle.tree_write.proofs.Merge.{ready_part}
-use borrow.Author.Rules.{rules}
-use Rattle.tree_write.proofs.Backing.{node_none, Backing, backing_start, backing_head, backing_inside, backing_end, backing_room, backing_more, left_at, left_less, parts_beside}
-use Prim.Native.Nat.{ℕ, ◌<◌}
+use Rattle.tree_write.proofs.Backing.{node_none, backing_start, backing_head, backing_inside, backing_end, backing_room, backing_more, left_less, parts_beside}
+use Prim.Native.Nat.{ℕ}
 use Rattle.tree_write.proofs.back.+put_node.Goals as goal
 
 pub returns-then-depth-eq0 : goal.returns-then-depth-eq0

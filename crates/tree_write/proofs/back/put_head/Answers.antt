@@ -2,7 +2,6 @@
 use mathlib.Core.Path.{refl}
 use native.Mathlib.Omega.{arith}
 use Rattle.tree_write.proofs.Backing.{head_fits, head_filed}
-use borrow.Author.Rules.{rules}
 use Rattle.tree_write.proofs.back.put_head.Goals as goal
 
 pub overflow_sub-at : goal.overflow_sub-at

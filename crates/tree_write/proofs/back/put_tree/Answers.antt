@@ -1,7 +1,6 @@
 -- `tree_write::back::put_tree` meets its contract. Assumes nothing.
 use mathlib.Core.Path.{refl}
 use Rattle.tree_write.proofs.Backing.{asked_root}
-use borrow.Author.Rules.{rules}
 use Rattle.tree_write.proofs.back.put_tree.Goals as goal
 
 pub put_node-requires : goal.put_node-requires

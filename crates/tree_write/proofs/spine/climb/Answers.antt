@@ -1,12 +1,6 @@
 use native.Mathlib.Omega.{arith}
 use lib.ListN.{length-set}
 use Rattle.tree_write.proofs.Backing.{spine_set, climb_up}
-use mathlib.Core.Path.{◌≡◌}
-use Prim.Native.Nat.{◌-◌}
-use lib.ListN.{length}
-use Rattle.walk_order.specs.Below.{Above}
-use Rattle.tree_write.specs.Spine.{Spine}
-use borrow.Author.Rules.{rules}
 use Rattle.tree_write.proofs.spine.climb.Goals as goal
 
 pub returns-then-up-p : goal.returns-then-up-p

@@ -4,7 +4,6 @@ use native.Mathlib.Omega.{arith}
 use Rattle.walk_order.specs.Child.{whole_below}
 use Rattle.walk_order.specs.Kid.{kid_none}
 use Rattle.tree_write.specs.Span.{kid_is}
-use borrow.Author.Rules.{rules}
 use Rattle.tree_write.proofs.spine.last_kid.Goals as goal
 
 pub returns-then-leaf-p : goal.returns-then-leaf-p
