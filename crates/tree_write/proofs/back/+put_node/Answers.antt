@@ -64,7 +64,7 @@ pub next-kid-requires-in-loop-kid : goal.next-kid-requires-in-loop-kid
 next-kid-requires-in-loop-kid t c = let loop = c.loop-kid in
     let used : ℕ = c.begin-runs.result.used in
     let put = c.put_node-pos in
-    ready_part _ _ _ _ _ _ (length loop.tails - used) (length loop.stops - used) _ _ put.new.tails put.new.stops (loop.invariant.0.taken.ready c.loop-kid-test.true) c.tails-in-loop-kid-1.given.1 c.stops-in-loop-kid-1.given.1
+    ready_part _ _ _ _ _ _ (length loop.tails - used) (length loop.stops - used) _ _ put.new.tails put.new.stops (loop.invariant.0.taken.ready c.loop-kid-test.true) (omega arith) (omega arith)
 
 pub loop-kid-smaller : goal.loop-kid-smaller
 loop-kid-smaller t c = left_less _ _ _ _ _ c.loop-kid-test.true c.next-kid-in-loop-kid.ensures.found.last
@@ -77,9 +77,9 @@ loop-kid-preserved t c = let asked = c.requires in
     let next = c.next-kid-in-loop-kid in (
       backing_more _ _ _ _ _ _ _ deep asked.room asked.inside _ _ _ _ _ _ inv.0 c.loop-kid-test.true _ _ _ _ _ put.auto.out put.ensures.filed next.ensures,
       (
-        omega (arith, inv.1.0, c.tails-in-loop-kid-1.given.1, next.auto.tails),
+        omega (arith, inv.1.0, next.auto.tails),
         (
-          omega (arith, inv.1.1.0, c.stops-in-loop-kid-1.given.1, next.auto.stops),
+          omega (arith, inv.1.1.0, next.auto.stops),
           (omega (arith, inv.1.1.1.0, put.auto.spine), (omega (arith, inv.1.1.1.1.0, put.auto.leaves), put.ensures.spine)),
         ),
       ),
