@@ -7,7 +7,6 @@ use native.Mathlib.Nat.{sub-zero}
 use native.Mathlib.Omega.{arith}
 use lib.ListN.{length, length-append}
 use borrow.Author.Tests.{lt-ltb, le-ltb, eq-eqb, ne_eqb}
-use Rattle.laws.specs.Pick.{pick}
 use Rattle.laws.specs.Put.{put, put_none, put_put, length-put}
 use Rattle.sums.specs.Cap.{largest, cap, cap_fits, cap_small, cap_cap}
 use Rattle.format.specs.Format.{depth_limit, id_size}

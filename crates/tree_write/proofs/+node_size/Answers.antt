@@ -1,11 +1,5 @@
-use Prim.Native.Nat.{◌-◌}
-use lib.ListN.{length}
-use Rattle.sums.specs.Cap.{cap}
-use Rattle.format.specs.Format.{id_size}
-use Rattle.tree_write.specs.Tree.{node_bytes}
 use borrow.Author.Rules.{rules}
-use Rattle.tree_write.proofs.Laws.{Adding, size-laws}
-use Prim.Native.Nat.{ℕ, ◌<◌}
+use Rattle.tree_write.proofs.Laws.{size-laws}
 use Rattle.tree_write.proofs.+node_size.Goals as goal
 
 pub returns-then-depth-eq0 : goal.returns-then-depth-eq0

@@ -4,9 +4,7 @@ use lib.ListN.{length}
 use Rattle.sums.specs.Cap.{cap}
 use Rattle.format.specs.Format.{id_size}
 use Rattle.tree_write.specs.Tree.{node_bytes}
-use borrow.Author.Rules.{rules}
-use Rattle.tree_write.proofs.Laws.{Adding, size-laws}
-use Prim.Native.Nat.{ℕ, ◌<◌}
+use Rattle.tree_write.proofs.Laws.{Adding}
 use Rattle.tree_write.proofs.+node_size.Given as goal
 
 abbrev pub decreases-node_size : goal.decreases-node_size

@@ -1,9 +1,5 @@
 -- `tree_write::put_node` meets its contract. The measure is the depth. The loop's invariant: putting the bytes of the children that are left at the present place gives the whole output, and they fit. Assumes nothing.
-use native.Mathlib.Nat.{pos_of_ne-zero}
-use native.Mathlib.Omega.{arith}
-use borrow.Author.Rules.{rules}
-use Rattle.tree_write.proofs.Laws.{node_laws, kids_stop, kids_none, Writing, writing_start, writing_room, writing_more, written}
-use Prim.Native.Nat.{ℕ, ◌<◌}
+use Rattle.tree_write.proofs.Laws.{Writing}
 use Rattle.tree_write.proofs.+put_node.Given as goal
 
 abbrev pub decreases-put_node : goal.decreases-put_node

@@ -1,7 +1,4 @@
 use native.Mathlib.Omega.{arith}
-use mathlib.Core.Path.{◌≡◌}
-use Prim.Native.Nat.{◌≤◌, ◌-◌}
-use Rattle.tree_write.specs.Tree.{best_run, next_kid}
 use borrow.Author.Rules.{rules}
 use Rattle.tree_write.proofs.Laws.{run-laws, run_more}
 use Rattle.tree_write.proofs.next_kid.Goals as goal

@@ -1,10 +1,7 @@
 -- `tree_write::next_kid` meets its contract. The loop's invariant: the pass over what is left, from the best so far, gives the whole answer. Assumes nothing.
-use native.Mathlib.Omega.{arith}
 use mathlib.Core.Path.{◌≡◌}
 use Prim.Native.Nat.{◌≤◌, ◌-◌}
 use Rattle.tree_write.specs.Tree.{best_run, next_kid}
-use borrow.Author.Rules.{rules}
-use Rattle.tree_write.proofs.Laws.{run-laws, run_more}
 use Rattle.tree_write.proofs.next_kid.Given as goal
 
 abbrev pub invariant-loop-j : goal.invariant-loop-j

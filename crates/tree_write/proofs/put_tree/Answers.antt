@@ -22,22 +22,22 @@ pub is_flat-requires : goal.is_flat-requires
 is_flat-requires c = search (tree_laws, rules)
 
 pub put_heads-requires : goal.put_heads-requires
-put_heads-requires c = flat_room _ _ _ c.is_flat.ensures c.if-is_flat.true _ _ (tree_fits_lem _ _ _ _ _ c.if-out-at.false c.tree_size_lem.ensures c.if-room-size.false (omega arith))
+put_heads-requires c = flat_room _ _ _ c.is_flat.ensures c.if-is_flat.true _ _ (tree_fits_lem _ _ _ _ _ c.if-out-at.false c.tree_size-size.ensures c.if-room-size.false (omega arith))
 
 pub shape_of-out-then-is_flat : goal.shape_of-out-then-is_flat
 shape_of-out-then-is_flat c = search (tree_laws, rules)
 
 pub returns-then-is_flat : goal.returns-then-is_flat
-returns-then-is_flat c = tree_done _ _ _ c.if-out-at.false _ c.tree_size_lem.ensures (omega (arith, c)) c.if-room-size.false _ (flat_put _ _ _ c.is_flat.ensures c.if-is_flat.true _ _ _ c.put_heads.ensures)
+returns-then-is_flat c = tree_done _ _ _ c.if-out-at.false _ c.tree_size-size.ensures (omega (arith, c)) c.if-room-size.false _ (flat_put _ _ _ c.is_flat.ensures c.if-is_flat.true _ _ _ c.put_heads.ensures)
 
 pub overflow_add-to : goal.overflow_add-to
 overflow_add-to c = search (tree_laws, rules)
 
 pub put_merged-requires : goal.put_merged-requires
-put_merged-requires c = tree_ends _ _ _ _ _ _ c.if-out-at.false c.tree_size_lem.ensures c.if-room-size.false (omega arith) refl
+put_merged-requires c = tree_ends _ _ _ _ _ _ c.if-out-at.false c.tree_size-size.ensures c.if-room-size.false (omega arith) refl
 
 pub shape_of-out : goal.shape_of-out
 shape_of-out c = search (tree_laws, rules)
 
 pub returns : goal.returns
-returns c = tree_done _ _ _ c.if-out-at.false _ c.tree_size_lem.ensures (omega (arith, c)) c.if-room-size.false _ c.put_merged.ensures
+returns c = tree_done _ _ _ c.if-out-at.false _ c.tree_size-size.ensures (omega (arith, c)) c.if-room-size.false _ c.put_merged.ensures

@@ -1,15 +1,8 @@
 -- `tree_write::back::put_node` meets its contract. The measure is the depth. The loop's invariant: the children that were taken are written up to the present place, and the next one is taken. Assumes nothing.
-use mathlib.Core.Path.{◌≡◌, refl}
-use Prim.Native.Nat.{◌-◌}
-use native.Mathlib.Nat.{pos_of_ne-zero}
-use native.Mathlib.Omega.{arith}
+use mathlib.Core.Path.{◌≡◌}
 use lib.ListN.{length}
 use Rattle.tree_write.specs.Spine.{Spine}
-use Rattle.tree_write.specs.Back.{Asked}
-use Rattle.tree_write.proofs.Merge.{ready_part}
-use borrow.Author.Rules.{rules}
-use Rattle.tree_write.proofs.Backing.{node_none, Backing, backing_start, backing_head, backing_inside, backing_end, backing_room, backing_more, left_at, left_less, parts_beside}
-use Prim.Native.Nat.{ℕ, ◌<◌}
+use Rattle.tree_write.proofs.Backing.{Backing, left_at}
 use Rattle.tree_write.proofs.back.+put_node.Given as goal
 
 abbrev pub decreases-put_node : goal.decreases-put_node

@@ -1,5 +1,3 @@
-use Prim.Native.Nat.{◌-◌}
-use Rattle.tree_write.proofs.Heads.{Sizing}
 use borrow.Author.Rules.{rules}
 use Rattle.tree_write.proofs.Heads.{flat-laws}
 use Rattle.tree_write.proofs.flat.heads_size.Goals as goal

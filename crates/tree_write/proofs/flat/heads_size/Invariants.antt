@@ -1,8 +1,6 @@
 -- `tree_write::flat::heads_size` meets its contract. The invariant: the size so far and that of the heads that are left make up the whole. Assumes nothing.
 use Prim.Native.Nat.{◌-◌}
 use Rattle.tree_write.proofs.Heads.{Sizing}
-use borrow.Author.Rules.{rules}
-use Rattle.tree_write.proofs.Heads.{flat-laws}
 use Rattle.tree_write.proofs.flat.heads_size.Given as goal
 
 abbrev pub invariant-loop-i : goal.invariant-loop-i

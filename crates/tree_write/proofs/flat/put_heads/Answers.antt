@@ -1,5 +1,3 @@
-use Prim.Native.Nat.{◌-◌}
-use Rattle.tree_write.proofs.Heads.{Filling}
 use borrow.Author.Rules.{rules}
 use Rattle.tree_write.proofs.Heads.{flat-laws}
 use Rattle.tree_write.proofs.flat.put_heads.Goals as goal

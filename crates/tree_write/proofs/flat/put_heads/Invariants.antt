@@ -1,8 +1,6 @@
 -- `tree_write::flat::put_heads` meets its contract. The invariant: putting the heads that are left at the present place gives the whole output, and they fit. Assumes nothing.
 use Prim.Native.Nat.{◌-◌}
 use Rattle.tree_write.proofs.Heads.{Filling}
-use borrow.Author.Rules.{rules}
-use Rattle.tree_write.proofs.Heads.{flat-laws}
 use Rattle.tree_write.proofs.flat.put_heads.Given as goal
 
 abbrev pub invariant-loop-i : goal.invariant-loop-i

@@ -1,7 +1,3 @@
-use mathlib.Core.Path.{◌≡◌}
-use Prim.Native.Nat.{◌-◌, ◌≤◌}
-use Rattle.walk_order.specs.Depth.{all_in}
-use Rattle.tree_write.specs.Flat.{rises_at, siblings_rise}
 use borrow.Author.Rules.{rules}
 use Rattle.tree_write.proofs.Heads.{flat-laws}
 use Rattle.tree_write.proofs.flat.siblings_rise.Goals as goal

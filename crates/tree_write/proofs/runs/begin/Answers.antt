@@ -1,6 +1,3 @@
-use mathlib.Core.Path.{◌≡◌}
-use lib.ListN.{length}
-use Rattle.tree_write.proofs.Merge.{Begun}
 use borrow.Author.Rules.{rules}
 use Rattle.tree_write.proofs.Merge.{runs-laws}
 use Rattle.tree_write.proofs.runs.begin.Goals as goal

@@ -2,8 +2,6 @@
 use mathlib.Core.Path.{◌≡◌}
 use lib.ListN.{length}
 use Rattle.tree_write.proofs.Merge.{Begun}
-use borrow.Author.Rules.{rules}
-use Rattle.tree_write.proofs.Merge.{runs-laws}
 use Rattle.tree_write.proofs.runs.begin.Given as goal
 
 abbrev pub invariant-loop-c : goal.invariant-loop-c

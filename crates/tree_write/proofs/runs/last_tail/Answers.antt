@@ -1,5 +1,3 @@
-use Prim.Native.Nat.{◌-◌}
-use Rattle.tree_write.proofs.Merge.{Searched}
 use borrow.Author.Rules.{rules}
 use Rattle.tree_write.proofs.Merge.{runs-laws}
 use Rattle.tree_write.proofs.runs.last_tail.Goals as goal

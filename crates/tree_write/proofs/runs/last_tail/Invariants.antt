@@ -1,8 +1,6 @@
 -- `tree_write::runs::last_tail` meets its contract. The invariant: the last of the tails that are passed is known, with its place. Assumes nothing.
 use Prim.Native.Nat.{◌-◌}
 use Rattle.tree_write.proofs.Merge.{Searched}
-use borrow.Author.Rules.{rules}
-use Rattle.tree_write.proofs.Merge.{runs-laws}
 use Rattle.tree_write.proofs.runs.last_tail.Given as goal
 
 abbrev pub invariant-loop-i : goal.invariant-loop-i

@@ -1,4 +1,3 @@
-use Rattle.tree_write.proofs.Merge.{Listing}
 use borrow.Author.Rules.{rules}
 use Rattle.tree_write.proofs.Merge.{runs-laws}
 use Rattle.tree_write.proofs.runs.listed.Goals as goal

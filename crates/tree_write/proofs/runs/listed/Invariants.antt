@@ -1,7 +1,5 @@
 -- `tree_write::runs::listed` meets its contract. The invariant: the last of the children that are passed and come before the bound is known. Assumes nothing.
 use Rattle.tree_write.proofs.Merge.{Listing}
-use borrow.Author.Rules.{rules}
-use Rattle.tree_write.proofs.Merge.{runs-laws}
 use Rattle.tree_write.proofs.runs.listed.Given as goal
 
 abbrev pub invariant-loop-c : goal.invariant-loop-c

@@ -1,6 +1,5 @@
 -- `tree_write::runs::next` meets its contract. Assumes nothing.
 use Rattle.tree_write.proofs.Merge.{taken_quick, taken_listed}
-use borrow.Author.Rules.{rules}
 use Rattle.tree_write.proofs.runs.next.Goals as goal
 
 pub returns-then-quick : goal.returns-then-quick

@@ -2,7 +2,6 @@
 use mathlib.Core.Path.{refl}
 use native.Mathlib.Nat.{pos_of_ne-zero}
 use Rattle.tree_write.proofs.Merge.{stepped_none, stepped_taken}
-use borrow.Author.Rules.{rules}
 use Rattle.tree_write.proofs.runs.take.Goals as goal
 
 pub returns-then-place-used : goal.returns-then-place-used

@@ -1,13 +1,9 @@
 -- `tree_write::spine::climb` meets its contract. The invariant: the node is the leaf or stands above it, and so do all that are kept. Assumes nothing.
-use native.Mathlib.Omega.{arith}
-use lib.ListN.{length-set}
-use Rattle.tree_write.proofs.Backing.{spine_set, climb_up}
 use mathlib.Core.Path.{◌≡◌}
 use Prim.Native.Nat.{◌-◌}
 use lib.ListN.{length}
 use Rattle.walk_order.specs.Below.{Above}
 use Rattle.tree_write.specs.Spine.{Spine}
-use borrow.Author.Rules.{rules}
 use Rattle.tree_write.proofs.spine.climb.Given as goal
 
 abbrev pub invariant-loop-k : goal.invariant-loop-k

@@ -1,6 +1,5 @@
 use native.Mathlib.Omega.{arith}
 use Rattle.walk_order.specs.Below.{itself}
-use Prim.Native.Nat.{◌≤◌}
 use borrow.Author.Rules.{rules}
 use Rattle.tree_write.proofs.Backing.{back-laws}
 use Rattle.tree_write.proofs.spine.find_foot.Goals as goal

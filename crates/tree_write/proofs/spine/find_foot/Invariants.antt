@@ -1,9 +1,5 @@
 -- `tree_write::spine::find_foot` meets its contract. The invariant: the place lies in the spine. Assumes nothing.
-use native.Mathlib.Omega.{arith}
-use Rattle.walk_order.specs.Below.{itself}
 use Prim.Native.Nat.{◌≤◌}
-use borrow.Author.Rules.{rules}
-use Rattle.tree_write.proofs.Backing.{back-laws}
 use Rattle.tree_write.proofs.spine.find_foot.Given as goal
 
 abbrev pub invariant-loop-k : goal.invariant-loop-k

@@ -4,14 +4,20 @@ use native.Mathlib.Omega.{arith}
 use Rattle.walk_order.specs.Child.{whole_below}
 use Rattle.walk_order.specs.Kid.{kid_none}
 use Rattle.tree_write.specs.Span.{kid_is}
-use borrow.Author.Rules.{rules}
 use Rattle.tree_write.proofs.spine.last_kid.Goals as goal
 
 pub returns-then-leaf-p : goal.returns-then-leaf-p
-returns-then-leaf-p c = (sym (kid_none _ _ _ (omega arith)), c.requires.1.1)
+returns-then-leaf-p c = record { value = sym (kid_none _ _ _ (omega arith)); spine_2 = c.requires.spine }
 
 pub climb-kid-requires : goal.climb-kid-requires
-climb-kid-requires c = ((c.requires.0.0, omega (arith, c.requires.0.1.within)), (c.find_foot-from.ensures, (c.requires.1.1, c.requires.1.0.1)))
+climb-kid-requires c = record {
+  nodes_value = (c.requires.nodes_value.0, omega (arith, c.requires.nodes_value.1.within));
+  above = c.find_foot-from.ensures;
+  spine = (c.requires.spine, c.requires.le_depth.1);
+}
 
 pub returns-then-p-kid : goal.returns-then-p-kid
-returns-then-p-kid c = (kid_is _ (whole_below _ _ c.requires.0.0) _ _ c.requires.0.1 _ c.if-p-kid.true (sym c.parent-up.ensures ∙ c.if-up-p.true) c.climb-kid.ensures.0, c.climb-kid.ensures.1)
+returns-then-p-kid c = record {
+  value = kid_is _ (whole_below _ _ c.requires.nodes_value.0) _ _ c.requires.nodes_value.1 _ c.if-p-kid.true (sym c.parent-up.ensures ∙ c.if-up-p.true) c.climb-kid.ensures.0;
+  spine_2 = c.climb-kid.ensures.1;
+}
