@@ -322,6 +322,7 @@ measure_spelled {n} {s} {at} {end} {version} {before} {flags = flags} {keep} {su
   where
     of : SaysMeasured n s at end version before (Found flags keep suffix len next) → Spelled n s at end version before flags keep suffix len next
     of (spelled e x) = x
+    of (refused r) = elim r [ ]
 
 -- ---- THE THEOREMS
 

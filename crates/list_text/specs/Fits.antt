@@ -32,7 +32,7 @@ use Rattle.decode.specs.Stores.{Ran, done, unspelled, full, stored, ran, reached
 use Rattle.decode.specs.declared.entries.Answer.{Answer as Stopped}
 use Rattle.decode.specs.declared.entries.Answer.TheVariants.{Done, NotSpelled, NoRoom}
 use Rattle.extension.specs.Decode.{all_at}
-use Rattle.extension.specs.Theorems.{by_less, by_same, Chain, chain_more}
+use Rattle.extension.specs.Theorems.{by_less, by_same, Chain, chain_more, chain_filled, chain_stray}
 use Rattle.extension.specs.Iter.{Found, Ending}
 use Rattle.extension.specs.Filling.{FirstForbidden, refused_here, refused_later, SaysAll, is_mandatory, all_says, fault_inside}
 use Rattle.extension.specs.declared.iter.Body.{Body}
@@ -162,6 +162,8 @@ module _ (s : List ℕ) (bytes : (i : ℕ) → get_or s i 0 < 256) (m : ℕ) (li
 
   -- the signature that 8 carries stands in the file
   mandatory_small : {end at : ℕ} {fs : List Found} {e : Ending} {signature : ℕ} → Chain s end at fs e → FirstForbidden fs signature → signature ≤ most
+  mandatory_small (chain_filled _ _) f = elim f [ ]
+  mandatory_small (chain_stray _ _) f = elim f [ ]
   mandatory_small {at = at} (chain_more w c) (refused_here q) = omega (arith, w.named, word_small at)
   mandatory_small (chain_more w c) (refused_later q f) = mandatory_small c f
 
