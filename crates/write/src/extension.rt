@@ -7,7 +7,7 @@ ghost use Rattle.kind.specs.Sha1.{sha1_kind};
 ghost use Rattle.write.specs.File.{extension_head, tree_head, sparse_part, heads_in, eoie_part, trailer_of, Puts};
 
 // What the heads of the extensions before EOIE say: whether TREE is written, how many bytes its body has, and whether `sdir` is written.
-#[derive(Drop)]
+#[derive(Clone, Copy)]
 pub struct Heads {
     pub tree: bool,
     pub size: u32,

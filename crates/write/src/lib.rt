@@ -19,7 +19,7 @@ mod extension;
 const MOST: usize = 4294967295;
 
 // What is to be written.
-#[derive(Drop)]
+#[derive(Clone, Copy)]
 pub struct Options {
     // there is a tree
     pub tree: bool,
