@@ -12,7 +12,7 @@ pub put_sparse-requires : goal.put_sparse-requires
 put_sparse-requires c = let start = c.requires in
     let head = c.put_tree_head-body.ensures in
     let tree = c.put_tree-end.ensures in
-    extensions_sparse _ _ _ _ _ start.0 _ _ start.1 _ head.0 _ head.1 _ tree.0 _ tree.1
+    extensions_sparse _ _ _ _ _ start.size_value _ _ start.h_in_bounds _ head.0 _ head.1 _ tree.0 _ tree.1
 
 pub shape_of-out : goal.shape_of-out
 shape_of-out c = search (whole, rules)

@@ -49,7 +49,11 @@ fill-requires c = let known = c.requires in
     let small = c.if-body-gt-MOST.false in
     let has = c.has_eoie-has.ensures in
     let last = c.end_size.ensures in
-    (tree_same _ _ _ _ _ _ _ _ _ _ _ _ n few writes known tree body small, (offset_small _ _ _ _ _ _ _ _ _ _ _ _ n few writes known tree body small, file_room _ _ _ _ _ _ _ _ _ _ _ _ n few writes known tree body small _ has _ last _ c.if-out-whole.false))
+    record {
+      size_value = tree_same _ _ _ _ _ _ _ _ _ _ _ _ n few writes known tree body small;
+      paths_bound = offset_small _ _ _ _ _ _ _ _ _ _ _ _ n few writes known tree body small;
+      eoie_in_bounds = file_room _ _ _ _ _ _ _ _ _ _ _ _ n few writes known tree body small _ has _ last _ c.if-out-whole.false;
+    }
 
 pub shape_of-out : goal.shape_of-out
 shape_of-out c = search (answers, rules)

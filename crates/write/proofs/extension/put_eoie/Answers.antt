@@ -22,7 +22,7 @@ copy_bytes-requires c = let room = c.requires in
     let there = c.if-has.true in
     let head = c.put_head-body.ensures in
     let number = c.put32.ensures in
-    (search (eoie_hash, rules), eoie_hash_room _ _ _ there _ _ room _ head.0 _ head.1 _ _ number)
+    record { n_in_bounds = search (eoie_hash, rules); n_in_bounds_2 = eoie_hash_room _ _ _ there _ _ room _ head.0 _ head.1 _ _ number }
 
 pub overflow_add-result : goal.overflow_add-result
 overflow_add-result c = search (parts, rules)
