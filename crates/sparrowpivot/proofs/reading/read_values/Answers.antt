@@ -11,26 +11,7 @@ use Rattle.file.specs.contracts.Answer as declared
 use Rattle.sparrowpivot.specs.Told.{eight}
 use Rattle.sparrowpivot.proofs.Laws.{laws}
 use borrow.Author.Rules.{rules}
-use Rattle.sparrowpivot.proofs.reading.read_values.Statement.{statement}
-use Rattle.sparrowpivot.proofs.reading.read_values.Tie as tie
-
-carried-requires : tie.Need-carried-requires
-carried-requires c κs = search (laws, rules)
-
-enum-known-a : tie.Need-enum-known-a
-enum-known-a c = search (laws, rules)
-
-bit-of-requires : tie.Need-bit-of-requires
-bit-of-requires c κs = search (laws, rules)
-
-bit-of-requires-2 : tie.Need-bit-of-requires-2
-bit-of-requires-2 c κs = search (laws, rules)
-
-cast-t12 : tie.Need-overflow-cast-t12
-cast-t12 c = search (laws, rules)
-
-returns : tie.Need-returns
-returns c = search (laws, rules)
+use Rattle.sparrowpivot.proofs.reading.read_values.Goals as goal
 
 first : {v w : ℕ} → v ≡ w → eight (v ∷ []) ≡ eight (w ∷ [])
 first e = ap (λ (x : ℕ). eight (x ∷ [])) e
@@ -48,17 +29,23 @@ refused (answer.Mandatory signature) e h = first e
 refused answer.TooDeep e h = first e
 refused answer.NoNodeRoom e h = first e
 
-returns-2 : tie.Need-returns-2
-returns-2 c = refused c.before.before.args.a c.before.carried.ensures c.match.keys2
+pub carried-first-requires : goal.carried-first-requires
+carried-first-requires c = search (laws, rules)
 
-pub read-values-spec : {M : Type 1} → statement M
-read-values-spec =
-    tie.close
-    (tie.spec
-    carried-requires
-    enum-known-a
-    bit-of-requires
-    bit-of-requires-2
-    cast-t12
-    returns
-    returns-2)
+pub enum_known-a : goal.enum_known-a
+enum_known-a c = search (laws, rules)
+
+pub bit_of-mark-requires : goal.bit_of-mark-requires
+bit_of-mark-requires c = search (laws, rules)
+
+pub bit_of-grown-requires : goal.bit_of-grown-requires
+bit_of-grown-requires c = search (laws, rules)
+
+pub overflow_cast-result : goal.overflow_cast-result
+overflow_cast-result c = search (laws, rules)
+
+pub returns-in-Read : goal.returns-in-Read
+returns-in-Read c = search (laws, rules)
+
+pub returns-in_default : goal.returns-in_default
+returns-in_default c = refused c.args.a c.carried-first.ensures c.in_default.keys2
