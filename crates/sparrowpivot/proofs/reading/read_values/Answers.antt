@@ -1,13 +1,11 @@
 -- `sparrowpivot::reading::read_values` meets its contract. Its second arm takes every answer but the first, so it goes by cases. Assumes nothing.
 use Prim.Native.Nat.{ℕ}
 use mathlib.Core.List.{[], ◌∷◌}
-use mathlib.Core.Path.{◌≡◌, ap}
-use types.Run.{OneOf, miss}
-use denote.Enum.Declared.{tag_of}
+use mathlib.Core.Bool.{Bool}
+use mathlib.Core.Path.{◌≡◌, ap, refl}
 use Rattle.file.specs.Answer.{carried_of, value_of}
 use Rattle.file.specs.declared.Answer.{Answer}
 use Rattle.file.specs.declared.Answer.TheVariants as answer
-use Rattle.file.specs.contracts.Answer as declared
 use Rattle.sparrowpivot.specs.Told.{eight}
 use Rattle.sparrowpivot.proofs.Laws.{laws}
 use borrow.Author.Rules.{rules}
@@ -16,8 +14,8 @@ use Rattle.sparrowpivot.proofs.reading.read_values.Goals as goal
 first : {v w : ℕ} → v ≡ w → eight (v ∷ []) ≡ eight (w ∷ [])
 first e = ap (λ (x : ℕ). eight (x ∷ [])) e
 
-refused : (a : Answer) {v : ℕ} → v ≡ value_of a → OneOf (1 ∷ 2 ∷ 3 ∷ 4 ∷ 5 ∷ 6 ∷ 7 ∷ 8 ∷ 9 ∷ 10 ∷ []) (tag_of declared.the_type a) → eight (v ∷ []) ≡ eight (carried_of a)
-refused (answer.Read version sparse tree records paths nodes) e h = absurd (miss (1 ∷ 2 ∷ 3 ∷ 4 ∷ 5 ∷ 6 ∷ 7 ∷ 8 ∷ 9 ∷ 10 ∷ []) 0 tt h)
+refused : (a : Answer) {v : ℕ} → v ≡ value_of a → ((version : ℕ) (sparse tree : Bool) (records paths nodes : ℕ) → a ≡ answer.Read version sparse tree records paths nodes → ⊥) → eight (v ∷ []) ≡ eight (carried_of a)
+refused (answer.Read version sparse tree records paths nodes) e h = absurd (h version sparse tree records paths nodes refl)
 refused answer.ShortFile e h = first e
 refused answer.NoSignature e h = first e
 refused (answer.OtherVersion version) e h = first e
@@ -48,4 +46,4 @@ pub returns-in-Read : goal.returns-in-Read
 returns-in-Read c = search (laws, rules)
 
 pub returns-in_default : goal.returns-in_default
-returns-in_default c = refused c.args.a c.carried-first.ensures c.in_default.keys2
+returns-in_default c = refused c.args.a c.carried-first.ensures c.in_default.not-Read

@@ -49,10 +49,10 @@ pub returns : goal.returns
 returns c = told_record _ _ _
     c.mode_at-mode.ensures
     c.flags_at-flags.ensures
-    c.Stage-at.ensures
+    c.stage_at-stage.ensures
     c.path_start_at-start.ensures
     c.path_end_at-end.ensures
-    c.lies_inside_lem.ensures
+    c.lies_inside-lies.ensures
     c.bit_of-inside.ensures
     c.records_in-n.ensures
     c.bit_of-there.ensures
