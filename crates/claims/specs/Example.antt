@@ -8,7 +8,7 @@ use Rattle.kind.specs.Sha1.{sha1_kind}
 use Rattle.grammar.specs.Extension.{Ext, LastSigned, last_signed, bytes_of}
 use Rattle.file.specs.Read.{read_file}
 use Rattle.grammar.specs.File.{Index, File, space}
-use Rattle.grammar.specs.Fault.{extensions_length}
+use Rattle.grammar.proofs.Fault.{extensions_length}
 use Rattle.claims_entries.specs.Rendering.{paths_bytes}
 use Rattle.claims_entries.specs.Said.{RoomFor}
 use Rattle.claims_extension.specs.Words.{all_bytes, bytes_if}

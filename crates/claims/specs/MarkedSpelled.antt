@@ -14,11 +14,11 @@ use Rattle.access.specs.declared.verify.Verified.TheVariants.{Sorted}
 use Rattle.grammar.specs.Number.{VariableWidth}
 use Rattle.grammar.specs.Entry.{Meaning, meaning, kept_mode, Before, start, path as behind, Entry}
 use Rattle.grammar.specs.File.{Index, header_length, File}
-use Rattle.grammar.specs.Space.{spelled_has_good_header}
-use Rattle.grammar.specs.DecideNumber.{decided, read_bytes, read_big, read_groups, read_variable, read_until, variable_reads}
-use Rattle.grammar.specs.DecideEntry.{read_words, read_fields, read_flags, read_counted, read_to_nul, read_compressed, read_name, read_entry, entry_reads}
-use Rattle.grammar.specs.Unique.{number_unique, entry_unique, one_meaning}
-use Rattle.grammar.specs.Examples as example
+use Rattle.grammar.proofs.Space.{spelled_has_good_header}
+use Rattle.grammar.proofs.DecideNumber.{decided, read_bytes, read_big, read_groups, read_variable, read_until, variable_reads}
+use Rattle.grammar.proofs.DecideEntry.{read_words, read_fields, read_flags, read_counted, read_to_nul, read_compressed, read_name, read_entry, entry_reads}
+use Rattle.grammar.proofs.Unique.{number_unique, entry_unique, one_meaning}
+use Rattle.grammar.proofs.Examples as example
 use Rattle.claims.specs.Marked.{Asked, file, plain, wider, groups, after, bits, file_size, order, Said, reads, entry, number, path, passes, checked, refuses, fixed, plain_bytes, wider_bytes, stripped_bytes, bits_bytes, untouched, Page, page, pair, pear, ear, pages}
 use Rattle.file.specs.Read.{Outcome}
 use Rattle.claims_entries.specs.Rendering.{paths_bytes}

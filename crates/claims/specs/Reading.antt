@@ -24,7 +24,7 @@ use Rattle.file.specs.declared.Answer.TheVariants as answer
 use Rattle.grammar.specs.Entry.{Meaning}
 use Rattle.grammar.specs.Extension.{Ext, TREE, Extensions, LastSigned}
 use Rattle.grammar.specs.File.{header_length, Sparse, Tells, version_of, count_of, space, GoodHeader}
-use Rattle.grammar.specs.DecideFile.{tells_unique}
+use Rattle.grammar.proofs.DecideFile.{tells_unique}
 use Rattle.claims_entries.specs.Rendering.{records_bytes, paths_bytes, sparse_by, sparse_tells}
 use Rattle.claims_entries.specs.Said as entry
 use Rattle.claims_entries.specs.Claims as entries

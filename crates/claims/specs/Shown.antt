@@ -19,8 +19,8 @@ use Rattle.grammar.specs.Entry.{Meaning}
 use Rattle.grammar.specs.Extension.{Ext, TREE, Extensions, LastSigned}
 use Rattle.grammar.specs.Tree.{Tree, depth, nodes, Node}
 use Rattle.grammar.specs.File.{Index, header_length, spelled, malformed, absent, File, version_of, count_of}
-use Rattle.grammar.specs.Space.{spells, space_spelled}
-use Rattle.grammar.specs.Unique.{tree_unique}
+use Rattle.grammar.proofs.Space.{spells, space_spelled}
+use Rattle.grammar.proofs.Unique.{tree_unique}
 use Rattle.claims_entries.specs.Rendering.{records_bytes, paths_bytes}
 use Rattle.claims_entries.specs.Said.{SpaceIn, filled}
 use Rattle.claims_entries.specs.Fields.{meaning_at_lem}

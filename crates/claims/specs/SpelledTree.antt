@@ -12,11 +12,11 @@ use Rattle.grammar.specs.Entry.{Meaning, start, Entries}
 use Rattle.grammar.specs.Extension.{Ext, TREE, Extensions, LastSigned}
 use Rattle.grammar.specs.Tree.{Tree, depth, nodes, Node}
 use Rattle.grammar.specs.File.{Index, header_length, CacheTree, spelled, malformed, absent, File, version_of, count_of, space}
-use Rattle.grammar.specs.Space.{Spells, spells, spelled_has_good_header, spelled_in_space}
-use Rattle.grammar.specs.DecideExtension.{none_not_last, last_unique}
-use Rattle.grammar.specs.DecideFile.{sparse_of, sparse_tells}
-use Rattle.grammar.specs.Unique.{entries_unique, extensions_unique}
-use Rattle.grammar.specs.Reach.{reaches_within, reaches_each_depth, reaches_each_node, depth_within, nodes_within}
+use Rattle.grammar.proofs.Space.{Spells, spells, spelled_has_good_header, spelled_in_space}
+use Rattle.grammar.proofs.DecideExtension.{none_not_last, last_unique}
+use Rattle.grammar.proofs.DecideFile.{sparse_of, sparse_tells}
+use Rattle.grammar.proofs.Unique.{entries_unique, extensions_unique}
+use Rattle.grammar.proofs.Reach.{reaches_within, reaches_each_depth, reaches_each_node, depth_within, nodes_within}
 use Rattle.claims_entries.specs.Said.{RoomFor}
 use Rattle.claims_tree.specs.Said.{lent, KeepsWithinDepth, HasRoom}
 use Rattle.claims.specs.Premises.{Slices, GoodTrailer}

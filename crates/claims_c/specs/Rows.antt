@@ -15,7 +15,7 @@ use Rattle.grammar.specs.Number.{Count}
 use Rattle.grammar.specs.Extension.{Extensions}
 use Rattle.grammar.specs.Tree.{Tree, tree, Subtrees, childless, beside, nodes, nodes_of, Id, of_tree, no_id, Head, NodeHead, node_head, Node, node, Nodes, no_node, one_node_lem}
 use Rattle.grammar.specs.File.{Index, header_length, CacheTree, spelled, malformed, absent, File, version_of, count_of, space}
-use Rattle.grammar.specs.Space.{Spells, spells, spelled_in_space, spelled_has_good_header}
+use Rattle.grammar.proofs.Space.{Spells, spells, spelled_in_space, spelled_has_good_header}
 use Rattle.claims_extension.specs.Body.{body_at}
 use Rattle.claims_tree.specs.Rendering.{count_word, id_bytes}
 use Rattle.claims_tree.specs.Shown.{ShowsNode, ShowsTree, ShowsSubtrees}

@@ -10,9 +10,9 @@ use Rattle.wire.specs.Places.{file_at, path_at}
 use Rattle.format.specs.Format.{id_size}
 use Rattle.decode.specs.declared.entries.Answer.TheVariants.{Done, NotSpelled, NoRoom}
 use Rattle.grammar.specs.Entry.{Meaning, meaning, start, Entry, Entries}
-use Rattle.grammar.specs.DecideNumber.{read_bytes, read_big, decided}
-use Rattle.grammar.specs.DecideEntry.{read_words, read_fields, read_flags, read_counted, read_name, read_entry, read_entries, entry_reads, entries_reads}
-use Rattle.grammar.specs.Unique.{entries_unique}
+use Rattle.grammar.proofs.DecideNumber.{read_bytes, read_big, decided}
+use Rattle.grammar.proofs.DecideEntry.{read_words, read_fields, read_flags, read_counted, read_name, read_entry, read_entries, entry_reads, entries_reads}
+use Rattle.grammar.proofs.Unique.{entries_unique}
 use Rattle.claims_entries.specs.Rendering.{paths_bytes, sparse_by, Bytes}
 use Rattle.claims_entries.specs.Said.{entries_space, SpaceIn, reading_of, holding, Fits, says_not_spelled, RoomFor}
 use Rattle.claims_entries.specs.Claims.{no_second_answer, stores_are_the_meaning, no_room_exactly}

@@ -5,7 +5,7 @@ use Rattle.std.specs.Prelude.{ℕ, ◌+◌, ◌≤◌, ◌≡◌, refl, Bool, Li
 use Rattle.std.proofs.Common.{sym, subst, ◌∙◌}
 use Rattle.wire.specs.Places.{file_at}
 use Rattle.extension.specs.Decode.{all_at}
-use Rattle.extension.specs.Filling.{SaysAll, is_filled, is_not_filled, is_mandatory, all_says}
+use Rattle.extension.proofs.Filling.{SaysAll, is_filled, is_not_filled, is_mandatory, all_says}
 use Rattle.extension.specs.declared.iter.Body.{Body}
 use Rattle.extension.specs.declared.iter.Body.TheVariants.{Lies, Missing}
 use Rattle.extension.specs.declared.decode.Bodies.{Bodies}
@@ -14,8 +14,8 @@ use Rattle.extension.specs.declared.decode.Space.TheVariants.{Filled, NotFilled,
 use Rattle.grammar.specs.Number.{big_endian}
 use Rattle.grammar.specs.Extension.{Ext, Extensions, NoneSigned, LastSigned}
 use Rattle.grammar.specs.File.{Tells}
-use Rattle.grammar.specs.Fault.{stray, refused, Faulty, fault_not_spelled}
-use Rattle.grammar.specs.Unique.{extensions_unique}
+use Rattle.grammar.proofs.Fault.{stray, refused, Faulty, fault_not_spelled}
+use Rattle.grammar.proofs.Unique.{extensions_unique}
 use Rattle.claims_entries.specs.Rendering.{Bytes}
 use Rattle.claims_extension.specs.Words.{bytes_within, FourBytes, TREE-bytes, signature_injective}
 use Rattle.claims_extension.specs.Said.{extensions_space, IsFilled, AllSpelled, HasSdir, SaysBody, says_missing, says_lies, Handed, SaysBodies, SaysExtensions, says_filled, says_not_filled, says_mandatory, one_body, handed_says, one_answer}

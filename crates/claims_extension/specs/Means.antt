@@ -15,16 +15,16 @@ use Rattle.extension.specs.Signatures as reader
 use Rattle.extension.specs.Iter.{Found, filled, stray, body_of}
 use Rattle.extension.specs.Decode.{forbidden, is_forbidden, optional as optionalFirst}
 use Rattle.extension.specs.Theorems.{Fits, Stands, Chain, chain_filled, chain_stray, chain_more}
-use Rattle.extension.specs.Filling as filling
+use Rattle.extension.proofs.Filling as filling
 use Rattle.extension.specs.declared.iter.Body.{Body}
 use Rattle.extension.specs.declared.iter.Body.TheVariants.{Lies, Missing}
 use Rattle.grammar.specs.Number.{big_endian, BigEndian, big_endian_lem}
 use Rattle.grammar.specs.Extension.{Ext, ext, Framed, framed, extension_header, Mandatory, sdir, Allowed, optional, empty_sdir, Extension, Extensions, NoneSigned, none_left, another, bytes_of, LastSigned, last_signed}
-use Rattle.grammar.specs.Fault as fault
-use Rattle.grammar.specs.Fault.{Faulty, stray_bytes, refused_extension}
+use Rattle.grammar.proofs.Fault as fault
+use Rattle.grammar.proofs.Fault.{Faulty, stray_bytes, refused_extension}
 use Rattle.grammar.specs.File.{Tells, it_is, it_is_not}
-use Rattle.grammar.specs.DecideNumber.{big_endian_length}
-use Rattle.grammar.specs.DecideExtension.{is_optional, OptionalOrNot, is_optional_lem, is_mandatory, optional?}
+use Rattle.grammar.proofs.DecideNumber.{big_endian_length}
+use Rattle.grammar.proofs.DecideExtension.{is_optional, OptionalOrNot, is_optional_lem, is_mandatory, optional?}
 use Rattle.claims_entries.specs.Rendering.{Bytes}
 use Rattle.claims_entries.specs.Fields.{bytes_left}
 use Rattle.claims_extension.specs.Words.{bytes_within, FourBytes, signature_injective, big_endian_before, big_endian_value, first_byte_lem, sdir_bytes}

@@ -13,10 +13,10 @@ use Rattle.grammar.specs.Number.{big_endian}
 use Rattle.grammar.specs.Entry.{Meaning}
 use Rattle.grammar.specs.Extension.{Ext, sdir, TREE, Extensions, NoneSigned, another, LastSigned, last_signed}
 use Rattle.grammar.specs.File.{directory_mode, Some, this, other, Sparse, by_entry, by_sdir, Tells, it_is, it_is_not}
-use Rattle.grammar.specs.Fault.{stray, refused, Faulty, fault_unique, fault_not_spelled}
-use Rattle.grammar.specs.Unique.{extensions_unique}
-use Rattle.grammar.specs.DecideExtension.{none_not_last, last_unique}
-use Rattle.grammar.specs.DecideFile.{tells_unique}
+use Rattle.grammar.proofs.Fault.{stray, refused, Faulty, fault_unique, fault_not_spelled}
+use Rattle.grammar.proofs.Unique.{extensions_unique}
+use Rattle.grammar.proofs.DecideExtension.{none_not_last, last_unique}
+use Rattle.grammar.proofs.DecideFile.{tells_unique}
 
 -- the extensions' space: from `from` to `end`
 abbrev pub extensions_space : List ℕ → ℕ → ℕ → List ℕ

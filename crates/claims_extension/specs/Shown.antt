@@ -11,8 +11,8 @@ use Rattle.extension.specs.declared.iter.Body.TheVariants.{Lies}
 use Rattle.extension.specs.declared.decode.Space.TheVariants.{Filled}
 use Rattle.grammar.specs.Number.{big_endian_lem}
 use Rattle.grammar.specs.Extension.{Ext, ext, framed, TREE, optional, Extensions, NoneSigned, none_left, another}
-use Rattle.grammar.specs.Unique.{extensions_unique}
-use Rattle.grammar.specs.DecideExtension.{none_not_last}
+use Rattle.grammar.proofs.Unique.{extensions_unique}
+use Rattle.grammar.proofs.DecideExtension.{none_not_last}
 use Rattle.claims_entries.specs.Rendering.{Bytes}
 use Rattle.claims_extension.specs.Words.{all_bytes, bytes_if}
 use Rattle.claims_extension.specs.Said.{extensions_space, SaysBody, says_lies, SaysExtensions, says_filled}

@@ -15,7 +15,7 @@ use Rattle.extension.specs.declared.end_of_index_entry.Told.TheVariants.{Offset}
 use Rattle.access.specs.Lookup.{lookup_at}
 use Rattle.access.specs.Finds.{absent_then_none, none_then_absent, found_then_has, has_then_found}
 use Rattle.access.specs.Steps.{found_counts_the_steps, absent_counts_the_steps}
-use Rattle.grammar.specs.Unique as grammar
+use Rattle.grammar.proofs.Unique as grammar
 use Rattle.file.specs.Read.{read_file}
 use Rattle.file.specs.declared.Answer.TheVariants.{Read}
 use Rattle.write.specs.File.{writes_tree, write_all}

@@ -6,7 +6,7 @@ use Rattle.laws.specs.Pick.{pick}
 use Rattle.format.specs.Format.{id_size}
 use Rattle.kind.specs.Sha1.{sha1_kind}
 use Rattle.grammar.specs.File.{Index, DIRC, header_length, File, version_of, count_of, space, GoodHeader}
-use Rattle.grammar.specs.Space.{spelled_has_good_header}
+use Rattle.grammar.proofs.Space.{spelled_has_good_header}
 use Rattle.file.specs.Read.{Outcome, outcome}
 use Rattle.file.specs.declared.Answer.TheVariants.{NoSignature, NotSpelled}
 use Rattle.claims_entries.specs.Said.{StopsAt}

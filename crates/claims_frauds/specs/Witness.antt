@@ -19,13 +19,13 @@ use Rattle.proper.specs.Proper.{parent_fits, count_fits, holds_none, name_fits, 
 use Rattle.access.specs.Marked.{row, table, paths as store, page_sorted}
 use Rattle.grammar.specs.Entry.{Meaning, meaning, start, Entries}
 use Rattle.grammar.specs.Entry.NoNul.{empty, byte}
-use Rattle.grammar.specs.Fault.{extensions_length}
+use Rattle.grammar.proofs.Fault.{extensions_length}
 use Rattle.grammar.specs.File.{Index, DIRC, File, space}
-use Rattle.grammar.specs.Space.{spelled_has_good_header}
-use Rattle.grammar.specs.DecideNumber.{read_bytes, read_big, read_until, decided}
-use Rattle.grammar.specs.DecideEntry.{read_words, read_fields, read_flags, read_to_nul, read_name, read_entry, read_entries, entries_reads}
-use Rattle.grammar.specs.Unique.{entries_unique}
-use Rattle.grammar.specs.Examples.{path_to_nul}
+use Rattle.grammar.proofs.Space.{spelled_has_good_header}
+use Rattle.grammar.proofs.DecideNumber.{read_bytes, read_big, read_until, decided}
+use Rattle.grammar.proofs.DecideEntry.{read_words, read_fields, read_flags, read_to_nul, read_name, read_entry, read_entries, entries_reads}
+use Rattle.grammar.proofs.Unique.{entries_unique}
+use Rattle.grammar.proofs.Examples.{path_to_nul}
 use Rattle.claims_entries.specs.Rendering.{paths_bytes}
 use Rattle.claims_entries.specs.Said.{Fits, RoomFor}
 use Rattle.claims_extension.specs.Words.{all_bytes, bytes_if}

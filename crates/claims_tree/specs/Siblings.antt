@@ -6,7 +6,7 @@ use Rattle.node.specs.Store.{parent_at, name_at}
 use Rattle.siblings.specs.Siblings.{siblings_differ}
 use Rattle.siblings.specs.InOrder.{Distinct as DistinctAt, distinct_differ, differ_distinct}
 use Rattle.grammar.specs.Tree.{Other, alone, differs, Distinct, no_names, one_more_lem}
-use Rattle.grammar.specs.DecideTree.{IsDistinct, is_distinct, repeats as repeated}
+use Rattle.grammar.proofs.DecideTree.{IsDistinct, is_distinct, repeats as repeated}
 
 -- ---- the children, in file order
 

@@ -20,7 +20,7 @@ use Rattle.entry.specs.Record.{records_in, flags_at, path_at}
 use Rattle.grammar.specs.Entry.{Meaning, Flags, full_field, start, Entries}
 use Rattle.grammar.specs.Extension.{Ext, ext, extension_header, sdir, TREE, Extensions}
 use Rattle.grammar.specs.Tree.{Tree, Node}
-use Rattle.grammar.specs.DecideTree.{read_tree}
+use Rattle.grammar.proofs.DecideTree.{read_tree}
 use Rattle.grammar.specs.File.{Index, header_length, Header, directory_mode, Some, Tells, it_is, it_is_not}
 use Rattle.claims_entries.specs.Rendering.{sparse_tells}
 use Rattle.claims.specs.Claims.{has_tree}

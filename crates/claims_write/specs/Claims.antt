@@ -16,7 +16,7 @@ use Rattle.entry.specs.Paths.{Paths, lying_in}
 use Rattle.entry.specs.Record.{records_in, flags_at}
 use Rattle.node.specs.Store.{nodes_in}
 use Rattle.grammar.specs.Tree.{Tree}
-use Rattle.grammar.specs.DecideTree.{read_tree}
+use Rattle.grammar.proofs.DecideTree.{read_tree}
 use Rattle.grammar.specs.File.{Index}
 use Rattle.file.specs.Read.{Outcome, read_file}
 use Rattle.file.specs.declared.Answer.TheVariants.{Read}

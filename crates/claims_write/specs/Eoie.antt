@@ -18,7 +18,7 @@ use Rattle.extension.specs.Signatures as reader
 use Rattle.extension.specs.Iter.{Found, filled}
 use Rattle.extension.specs.EndOfIndexEntry.{headers_of, offset_in}
 use Rattle.extension.specs.Theorems.{Chain, chain_filled, chain_more}
-use Rattle.extension.specs.Telling.{beginning, Tells, tells_told}
+use Rattle.extension.proofs.Telling.{beginning, Tells, tells_told}
 use Rattle.extension.specs.declared.end_of_index_entry.Told.TheVariants.{Offset}
 use Rattle.write.specs.declared.Options.{Options}
 use Rattle.write.specs.declared.Answer.TheVariants.{Done}

@@ -19,9 +19,9 @@ use Rattle.entry.specs.Record.{records_in}
 use Rattle.grammar.specs.Entry.{Meaning, start, Entries}
 use Rattle.grammar.specs.Extension.{Ext, TREE, Extensions, LastSigned}
 use Rattle.grammar.specs.File.{Index, header_length, File, version_of, count_of, space}
-use Rattle.grammar.specs.Space.{Spells, spells, spelled_in_space}
-use Rattle.grammar.specs.DecideExtension.{none_not_last, last_unique}
-use Rattle.grammar.specs.Unique.{entries_unique, extensions_unique}
+use Rattle.grammar.proofs.Space.{Spells, spells, spelled_in_space}
+use Rattle.grammar.proofs.DecideExtension.{none_not_last, last_unique}
+use Rattle.grammar.proofs.Unique.{entries_unique, extensions_unique}
 use Rattle.file.specs.Read.{read_file}
 use Rattle.claims_entries.specs.Rendering.{records_bytes, paths_bytes, Bytes}
 use Rattle.claims_entries.specs.Said.{filled, Fits, RoomFor}

@@ -18,7 +18,7 @@ use Rattle.entry.specs.Record.{records_in}
 use Rattle.grammar.specs.Entry.{start, Entries}
 use Rattle.grammar.specs.Extension.{Ext, Extensions}
 use Rattle.grammar.specs.Tree.{Tree}
-use Rattle.grammar.specs.DecideTree.{read_tree, SaysTree, is_tree, no_tree, tree_says}
+use Rattle.grammar.proofs.DecideTree.{read_tree, SaysTree, is_tree, no_tree, tree_says}
 use Rattle.grammar.specs.File.{Index, header_length, Supported, Header, header, CacheTree, spelled, malformed, absent, File, file}
 use Rattle.claims_entries.specs.Rendering.{sparse_by, sparse_tells}
 use Rattle.claims_extension.specs.Said.{either_marks}

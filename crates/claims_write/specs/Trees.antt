@@ -8,8 +8,8 @@ use Rattle.format.specs.Format.{depth_limit}
 use Rattle.kind.specs.Kind.{Kind}
 use Rattle.entry.specs.Paths.{Paths}
 use Rattle.grammar.specs.Tree.{Tree, nodes, Node}
-use Rattle.grammar.specs.Reach.{depth_within, nodes_within}
-use Rattle.grammar.specs.DecideTree.{read_tree, tree_decided}
+use Rattle.grammar.proofs.Reach.{depth_within, nodes_within}
+use Rattle.grammar.proofs.DecideTree.{read_tree, tree_decided}
 use Rattle.claims_tree.specs.Rendering.{tree_bytes}
 use Rattle.claims_tree.specs.Said.{lent, KeepsWithinDepth, HasRoom}
 use Rattle.node.specs.Store.{nodes_in}

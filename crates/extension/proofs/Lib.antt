@@ -1,2 +1,4 @@
 -- What the proofs of extension share.
 pub mod Laws
+pub mod Filling
+pub mod Telling

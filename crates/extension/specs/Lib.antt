@@ -7,6 +7,4 @@ pub mod Decode
 pub mod IndexEntryOffsetTable
 pub mod EndOfIndexEntry
 pub mod Theorems
-pub mod Filling
-pub mod Telling
 pub mod Marked

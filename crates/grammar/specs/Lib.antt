@@ -8,16 +8,3 @@ pub mod Extension
 pub mod Tree
 pub mod File
 pub mod Walk
-pub mod DecideNumber
-pub mod DecideEntry
-pub mod DecideExtension
-pub mod DecideTree
-pub mod DecideFile
-pub mod Unique
-pub mod Space
-pub mod Fault
-pub mod Descent
-pub mod Reach
-pub mod Examples
-pub mod EdgeExamples
-pub mod WalkExamples

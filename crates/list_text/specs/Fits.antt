@@ -34,7 +34,7 @@ use Rattle.decode.specs.declared.entries.Answer.TheVariants.{Done, NotSpelled, N
 use Rattle.extension.specs.Decode.{all_at}
 use Rattle.extension.specs.Theorems.{by_less, by_same, Chain, chain_more, chain_filled, chain_stray}
 use Rattle.extension.specs.Iter.{Found, Ending}
-use Rattle.extension.specs.Filling.{FirstForbidden, refused_here, refused_later, SaysAll, is_mandatory, all_says, fault_inside}
+use Rattle.extension.proofs.Filling.{FirstForbidden, refused_here, refused_later, SaysAll, is_mandatory, all_says, fault_inside}
 use Rattle.extension.specs.declared.iter.Body.{Body}
 use Rattle.extension.specs.declared.iter.Body.TheVariants.{Lies, Missing}
 use Rattle.extension.specs.declared.decode.Space.{Space}

@@ -7,7 +7,7 @@ use Rattle.grammar.specs.Entry.{Meaning, start, Entries}
 use Rattle.grammar.specs.Extension.{Ext, Extensions}
 use Rattle.grammar.specs.Tree.{Tree}
 use Rattle.grammar.specs.File.{Index, DIRC, header_length, Supported, Header, header, Sparse, Tells, CacheTree, File, file, version_of, count_of, space, GoodHeader}
-use Rattle.grammar.specs.DecideFile.{header_length_lem}
+use Rattle.grammar.proofs.DecideFile.{header_length_lem}
 
 -- what the bytes between header and trailer spell
 pub data Spells (n version count : ℕ) (xs : List ℕ) : Index → Type 0 where

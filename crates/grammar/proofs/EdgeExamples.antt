@@ -8,8 +8,8 @@ use Rattle.grammar.specs.Entry.{meaning}
 use Rattle.grammar.specs.Extension.{TREE}
 use Rattle.grammar.specs.Tree.{tree, childless}
 use Rattle.grammar.specs.File.{Index, File}
-use Rattle.grammar.specs.Unique.{file_decided, no_file_decided}
-use Rattle.grammar.specs.Examples.{decided, header, fixed, kept, extension, trailer, entry_a, index, NoFile}
+use Rattle.grammar.proofs.Unique.{file_decided, no_file_decided}
+use Rattle.grammar.proofs.Examples.{decided, header, fixed, kept, extension, trailer, entry_a, index, NoFile}
 
 -- ---- "one entry of kept mode octal 040000, or `sdir`, makes the index sparse"
 

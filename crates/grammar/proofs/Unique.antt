@@ -10,13 +10,13 @@ use Rattle.grammar.specs.Entry.{Before, Entry, Entries}
 use Rattle.grammar.specs.Extension.{Ext, Framed, Extension, Extensions}
 use Rattle.grammar.specs.Tree.{depth, NodeHead, Node}
 use Rattle.grammar.specs.File.{Index, File}
-use Rattle.grammar.specs.DecideNumber.{variable_reads, Whole, means, nothing_said}
-use Rattle.grammar.specs.DecideEntry.{entry_reads, entries_reads}
-use Rattle.grammar.specs.DecideExtension.{framed_reads, extension_reads, extension_some}
-use Rattle.grammar.specs.DecideTree.{head_reads, node_reads}
-pub use Rattle.grammar.specs.DecideTree.{tree_unique}
-use Rattle.grammar.specs.DecideFile.{read_file, file_says, file_complete}
-pub use Rattle.grammar.specs.DecideFile.{cache_tree_unique}
+use Rattle.grammar.proofs.DecideNumber.{variable_reads, Whole, means, nothing_said}
+use Rattle.grammar.proofs.DecideEntry.{entry_reads, entries_reads}
+use Rattle.grammar.proofs.DecideExtension.{framed_reads, extension_reads, extension_some}
+use Rattle.grammar.proofs.DecideTree.{head_reads, node_reads}
+pub use Rattle.grammar.proofs.DecideTree.{tree_unique}
+use Rattle.grammar.proofs.DecideFile.{read_file, file_says, file_complete}
+pub use Rattle.grammar.proofs.DecideFile.{cache_tree_unique}
 
 -- v and w are spelled by the same first bytes of xs, and mean the same
 abbrev pub SameMeaning : {A : Type 0} (R : List ℕ → A → Type 0) → Type 0

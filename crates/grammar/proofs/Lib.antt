@@ -1,0 +1,13 @@
+pub mod DecideNumber
+pub mod DecideEntry
+pub mod DecideExtension
+pub mod DecideTree
+pub mod DecideFile
+pub mod Unique
+pub mod Space
+pub mod Fault
+pub mod Descent
+pub mod Reach
+pub mod Examples
+pub mod EdgeExamples
+pub mod WalkExamples
