@@ -21,7 +21,7 @@ use Rattle.grammar.proofs.Reach.{depth_within, nodes_within}
 use Rattle.grammar.proofs.Unique.{one_meaning}
 use Rattle.claims_entries.specs.Rendering.{records_bytes, paths_bytes}
 use Rattle.claims_entries.specs.Said.{filled, StopsAt, RoomFor, LacksRoomAt}
-use Rattle.claims_entries.specs.Fields.{spelled_length}
+use Rattle.claims_entries.proofs.Fields.{spelled_length}
 use Rattle.claims_tree.specs.Rendering.{tree_bytes}
 use Rattle.claims_tree.specs.Said.{zeroed, lent, GoesTooDeep, UsesUp, SpellsTree, KeepsWithinDepth, HasRoom}
 use Rattle.claims.specs.Premises.{Slices, GoodTrailer}

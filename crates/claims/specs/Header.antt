@@ -12,7 +12,7 @@ use Rattle.grammar.specs.Number.{big_endian}
 use Rattle.grammar.specs.File.{DIRC, header_length, Supported, version_of, count_of, GoodHeader}
 use Rattle.claims_entries.specs.Parts.{be_is}
 use Rattle.claims_entries.specs.Rendering.{Bytes}
-use Rattle.claims_entries.specs.Fields.{bytes_left}
+use Rattle.claims_entries.proofs.Fields.{bytes_left}
 use Rattle.claims_extension.specs.Words.{all_bytes, bytes_if, FourBytes, signature_injective}
 
 -- what each answer says

@@ -27,7 +27,7 @@ use Rattle.grammar.specs.File.{header_length, Sparse, Tells, version_of, count_o
 use Rattle.grammar.proofs.DecideFile.{tells_unique}
 use Rattle.claims_entries.specs.Rendering.{records_bytes, paths_bytes, sparse_by, sparse_tells}
 use Rattle.claims_entries.specs.Said as entry
-use Rattle.claims_entries.specs.Claims as entries
+use Rattle.claims_entries.proofs.Claims as entries
 use Rattle.claims_extension.specs.Said as ext
 use Rattle.claims_extension.specs.Claims as extensions
 use Rattle.claims_extension.specs.Body.{BodyAt}

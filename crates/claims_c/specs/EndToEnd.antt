@@ -27,7 +27,7 @@ use Rattle.grammar.specs.Tree.{Tree}
 use Rattle.grammar.specs.File.{Index, DIRC, header_length, Supported, File, version_of, count_of, space, GoodHeader}
 use Rattle.grammar.proofs.Fault.{stray, refused, Faulty}
 use Rattle.claims_entries.specs.Rendering.{paths_bytes}
-use Rattle.claims_entries.specs.Shown.{EachShown}
+use Rattle.claims_entries.proofs.Shown.{EachShown}
 use Rattle.claims_entries.specs.Said.{StopsAt, RoomFor, LacksRoomAt}
 use Rattle.claims_tree.specs.Rendering.{count_word}
 use Rattle.claims_tree.specs.Said.{lent, GoesTooDeep, UsesUp}

@@ -3,12 +3,6 @@
 -- (Parts), one entry (Measure), a run of them (Run), how far they reach (Reach); and an example (Example). Assumes nothing.
 pub mod Said
 pub mod Rendering
-pub mod Claims
-pub mod Fields
-pub mod Shown
 pub mod Place
 pub mod Parts
 pub mod Measure
-pub mod Run
-pub mod Reach
-pub mod Example

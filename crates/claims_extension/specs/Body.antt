@@ -6,7 +6,7 @@ use Rattle.grammar.specs.Extension.{Ext, Framed, framed, extension_header, Exten
 use Rattle.grammar.proofs.Fault.{refused, Faulty, refused_extension, extensions_length}
 use Rattle.grammar.proofs.DecideNumber.{big_endian_length}
 use Rattle.claims_entries.specs.Rendering.{Bytes}
-use Rattle.claims_entries.specs.Fields.{bytes_left, bytes_right}
+use Rattle.claims_entries.proofs.Fields.{bytes_left, bytes_right}
 use Rattle.claims_extension.specs.Words.{FourBytes}
 use Rattle.claims_extension.specs.Said.{extensions_space}
 

@@ -26,7 +26,7 @@ use Rattle.grammar.specs.File.{Tells, it_is, it_is_not}
 use Rattle.grammar.proofs.DecideNumber.{big_endian_length}
 use Rattle.grammar.proofs.DecideExtension.{is_optional, OptionalOrNot, is_optional_lem, is_mandatory, optional?}
 use Rattle.claims_entries.specs.Rendering.{Bytes}
-use Rattle.claims_entries.specs.Fields.{bytes_left}
+use Rattle.claims_entries.proofs.Fields.{bytes_left}
 use Rattle.claims_extension.specs.Words.{bytes_within, FourBytes, signature_injective, big_endian_before, big_endian_value, first_byte_lem, sdir_bytes}
 use Rattle.claims_extension.specs.Said.{HasSdir, SaysBody, says_missing, says_lies, last_is_some, none_is_some}
 

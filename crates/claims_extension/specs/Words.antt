@@ -8,7 +8,7 @@ use Rattle.wire.specs.BigEndian.{be_at, be_left}
 use Rattle.extension.specs.Signatures as reader
 use Rattle.claims_entries.specs.Parts.{be_is}
 use Rattle.claims_entries.specs.Rendering.{Bytes}
-use Rattle.claims_entries.specs.Fields.{bytes_left, bytes_right}
+use Rattle.claims_entries.proofs.Fields.{bytes_left, bytes_right}
 use Rattle.grammar.specs.Number.{followed_by, big_endian, BigEndian, big_endian_lem}
 use Rattle.grammar.specs.Extension.{sdir, TREE}
 

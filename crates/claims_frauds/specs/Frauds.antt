@@ -23,7 +23,7 @@ use Rattle.file.specs.declared.Answer.TheVariants.{Read}
 use Rattle.write.specs.File as writing
 use Rattle.write.specs.declared.Answer.TheVariants.{Done}
 use Rattle.claims_entries.specs.Rendering.{Bytes}
-use Rattle.claims_entries.specs.Fields.{bytes_left}
+use Rattle.claims_entries.proofs.Fields.{bytes_left}
 use Rattle.claims.specs.Premises.{Slices}
 use Rattle.claims.specs.Claims.{IsRead, refusal_1_exactly, refusal_2_exactly}
 use Rattle.claims_frauds.specs.Demands.{Reader, Writer, Lookup, Digester, Demand3, Case, written, file_in, ReadsBack, Finds, Demand2, CountsTheSteps, DigestsEachPrefix}

@@ -15,7 +15,7 @@ use Rattle.grammar.proofs.DecideEntry.{read_words, read_fields, read_flags, read
 use Rattle.grammar.proofs.Unique.{entries_unique}
 use Rattle.claims_entries.specs.Rendering.{paths_bytes, sparse_by, Bytes}
 use Rattle.claims_entries.specs.Said.{entries_space, SpaceIn, reading_of, holding, Fits, says_not_spelled, RoomFor}
-use Rattle.claims_entries.specs.Claims.{no_second_answer, stores_are_the_meaning, no_room_exactly}
+use Rattle.claims_entries.proofs.Claims.{no_second_answer, stores_are_the_meaning, no_room_exactly}
 
 -- "a" of version 2, with one byte of padding, a 7, and a mode of which some bits are dropped
 abbrev one : List ℕ

@@ -15,8 +15,8 @@ use Rattle.decode.specs.declared.entries.Answer.TheVariants.{Done}
 use Rattle.grammar.specs.Entry.{Meaning, start, Entries}
 use Rattle.claims_entries.specs.Rendering.{records_bytes, paths_bytes, Bytes}
 use Rattle.claims_entries.specs.Said.{entries_space, SpaceIn, reading_of, filled, Fits, SaysRead, says_done, says_not_spelled, says_no_room, IsDone}
-use Rattle.claims_entries.specs.Claims.{answer_says}
-use Rattle.claims_entries.specs.Fields.{Shows, bytes_left, spelled_each_fits, spelled_length, rendered_fields, meaning_at_lem}
+use Rattle.claims_entries.proofs.Claims.{answer_says}
+use Rattle.claims_entries.proofs.Fields.{Shows, bytes_left, spelled_each_fits, spelled_length, rendered_fields, meaning_at_lem}
 
 -- 64 bits address each byte of a store
 abbrev pub Addressable : List ℕ → Type 0
