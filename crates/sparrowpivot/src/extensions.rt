@@ -14,8 +14,7 @@ use extension::index_entry_offset_table::{Offset, Table};
 use wire::FileAt;
 
 // The EOIE: 1 if there is one, and the offset at which extensions begin.
-#[unsafe(no_mangle)]
-pub extern "C" fn sparrowpivot_eoie(file: &[u8], values: &mut [u64; 8]) -> u32
+pub fn sparrowpivot_eoie(file: &[u8], values: &mut [u64; 8]) -> u32
     ensures { told result values.new [] ≡ tell_offset (offset_in sha1_kind file.now) }
 {
     let a = extension::end_of_index_entry::decode(file);
@@ -33,8 +32,7 @@ pub extern "C" fn sparrowpivot_eoie(file: &[u8], values: &mut [u64; 8]) -> u32
 }
 
 // The first IEOT of a file whose extensions begin at an offset: 1 if there is one, and how many pairs it has.
-#[unsafe(no_mangle)]
-pub extern "C" fn sparrowpivot_ieot_count(file: &[u8], offset: usize, values: &mut [u64; 8]) -> u32
+pub fn sparrowpivot_ieot_count(file: &[u8], offset: usize, values: &mut [u64; 8]) -> u32
     ensures { told result values.new [] ≡ tell_table (table_from id_size file.now offset) }
 {
     let a = extension::index_entry_offset_table::find(file, FileAt(offset));
@@ -51,13 +49,7 @@ pub extern "C" fn sparrowpivot_ieot_count(file: &[u8], offset: usize, values: &m
 }
 
 // Pair number k of that table: 1 if there is one, where the block of entries begins, and how many it has.
-#[unsafe(no_mangle)]
-pub extern "C" fn sparrowpivot_ieot_pair(
-    file: &[u8],
-    offset: usize,
-    k: usize,
-    values: &mut [u64; 8],
-) -> u32
+pub fn sparrowpivot_ieot_pair(file: &[u8], offset: usize, k: usize, values: &mut [u64; 8]) -> u32
     ensures { told result values.new [] ≡ tell_pair (pair_from id_size file.now offset k) }
 {
     let a = extension::index_entry_offset_table::pair(file, FileAt(offset), k);
@@ -96,13 +88,7 @@ fn extensions_from(told: u32, offset: usize) -> Extensions
 }
 
 // How many entries a file of so many bytes has room for at most.
-#[unsafe(no_mangle)]
-pub extern "C" fn sparrowpivot_max_entries(
-    size: usize,
-    told: u32,
-    offset: usize,
-    version: u32,
-) -> u64
+pub fn sparrowpivot_max_entries(size: usize, told: u32, offset: usize, version: u32) -> u64
     ensures { result ≡ max_entries size (extensions_from told offset) version id_size }
 {
     let from = extensions_from(told, offset);

@@ -14,8 +14,7 @@ pub mod tables;
 pub mod writing;
 
 // The SHA-1 of the bytes, put into the twenty bytes lent.
-#[unsafe(no_mangle)]
-pub extern "C" fn sparrowpivot_sha1(bytes: &[u8], out: &mut [u8; 20])
+pub fn sparrowpivot_sha1(bytes: &[u8], out: &mut [u8; 20])
     ensures { out.new ≡ sha1 bytes.now }
 {
     *out = sha1_hash::sha1_of(bytes);

@@ -46,8 +46,7 @@ fn read_values(a: Answer) -> [u64; 8]
 
 // Reads an index file into three lent stores. 0: read, with the version, 1 if the index is sparse, 1 if there is a tree, and how many records, path bytes and nodes
 // are used; else the refusal's number, and as the first value what it carries.
-#[unsafe(no_mangle)]
-pub extern "C" fn sparrowpivot_read(
+pub fn sparrowpivot_read(
     file: &[u8],
     records: &mut [u8],
     paths: &mut [u8],
@@ -65,8 +64,7 @@ pub extern "C" fn sparrowpivot_read(
 
 // Reads count entries of an index between its header and its trailer. 0: read, with the place behind the entries, the path bytes used and 1 if the index is sparse
 // as the first three values; else 01's number, and the entry's index as the first value. The other values are 0.
-#[unsafe(no_mangle)]
-pub extern "C" fn sparrowpivot_entries(
+pub fn sparrowpivot_entries(
     file: &[u8],
     version: u32,
     count: usize,

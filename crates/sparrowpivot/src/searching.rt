@@ -10,8 +10,7 @@ use access::Found;
 use access::verify::Verified;
 
 // The record that has this path and stage. 0: 1 if there is one, its index, and how many records were compared; 11: nothing; 12: the index of the record.
-#[unsafe(no_mangle)]
-pub extern "C" fn sparrowpivot_lookup(
+pub fn sparrowpivot_lookup(
     records: &[u8],
     paths: &[u8],
     key: &[u8],
@@ -42,12 +41,7 @@ pub extern "C" fn sparrowpivot_lookup(
 }
 
 // Whether every path lies in the path store and each record is strictly after the one before. 0: so it is; 12 and 13: the index of the record.
-#[unsafe(no_mangle)]
-pub extern "C" fn sparrowpivot_check_order(
-    records: &[u8],
-    paths: &[u8],
-    values: &mut [u64; 8],
-) -> u32
+pub fn sparrowpivot_check_order(records: &[u8], paths: &[u8], values: &mut [u64; 8]) -> u32
     ensures { told result values.new [] ≡ tell_verified (verify_at records.now (lying_in paths.now)) }
 {
     let a = access::verify::verify_entries(records, paths);

@@ -8,13 +8,7 @@ ghost use Rattle.sparrowpivot.specs.Told.{told};
 ghost use Rattle.sparrowpivot.specs.Tables.{tell_record, tell_stat, tell_node, node_id};
 
 // Record i: mode, flags, stage, where its path starts and ends in the path store, 1 if that lies in the path store, 1 if there is a record i, and the file's size.
-#[unsafe(no_mangle)]
-pub extern "C" fn sparrowpivot_record(
-    records: &[u8],
-    paths: &[u8],
-    i: usize,
-    values: &mut [u64; 8],
-) -> u32
+pub fn sparrowpivot_record(records: &[u8], paths: &[u8], i: usize, values: &mut [u64; 8]) -> u32
     ensures { told result values.new [] ≡ tell_record records.now (lying_in paths.now) i }
 {
     let mode = entry::mode_at(records, i);
@@ -41,8 +35,7 @@ pub extern "C" fn sparrowpivot_record(
 }
 
 // Record i: seconds and nanoseconds of ctime and of mtime, dev, ino, uid, gid.
-#[unsafe(no_mangle)]
-pub extern "C" fn sparrowpivot_record_stat(records: &[u8], i: usize, values: &mut [u64; 8]) -> u32
+pub fn sparrowpivot_record_stat(records: &[u8], i: usize, values: &mut [u64; 8]) -> u32
     ensures { told result values.new [] ≡ tell_stat records.now i }
 {
     let stat = entry::stat::stat_at(records, i);
@@ -62,8 +55,7 @@ pub extern "C" fn sparrowpivot_record_stat(records: &[u8], i: usize, values: &mu
 }
 
 // The id of record i.
-#[unsafe(no_mangle)]
-pub extern "C" fn sparrowpivot_record_id(records: &[u8], i: usize, out: &mut [u8; format::ID_SIZE])
+pub fn sparrowpivot_record_id(records: &[u8], i: usize, out: &mut [u8; format::ID_SIZE])
     ensures { out.new ≡ id_at id_size records.now i }
 {
     *out = entry::id_at(records, i);
@@ -71,8 +63,7 @@ pub extern "C" fn sparrowpivot_record_id(records: &[u8], i: usize, out: &mut [u8
 
 // Node i: where its name starts and ends in the file, its entry count, its subtree count, its parent, and 1 if there is a node i. A count of -1, and the parent of
 // the root, are 2^64 - 1.
-#[unsafe(no_mangle)]
-pub extern "C" fn sparrowpivot_node(nodes: &[u8], i: usize, values: &mut [u64; 8]) -> u32
+pub fn sparrowpivot_node(nodes: &[u8], i: usize, values: &mut [u64; 8]) -> u32
     ensures { told result values.new [] ≡ tell_node nodes.now i }
 {
     let first = node::name_start(nodes, i);
@@ -110,8 +101,7 @@ fn id_of_node(nodes: &[u8], i: usize) -> [u8; format::ID_SIZE]
     id
 }
 
-#[unsafe(no_mangle)]
-pub extern "C" fn sparrowpivot_node_id(nodes: &[u8], i: usize, out: &mut [u8; format::ID_SIZE])
+pub fn sparrowpivot_node_id(nodes: &[u8], i: usize, out: &mut [u8; format::ID_SIZE])
     ensures { out.new ≡ node_id nodes.now i }
 {
     *out = id_of_node(nodes, i);

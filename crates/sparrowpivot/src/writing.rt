@@ -24,8 +24,7 @@ fn options_from(options: u32) -> Options
 
 // Writes the index file of a table and its tree into out. 0: written, with the version and the size as the first two values; 12: the index of the record; 14: the
 // size needed; 15 and 16: nothing. A refusal leaves out as it was, so an empty out asks for the size.
-#[unsafe(no_mangle)]
-pub extern "C" fn sparrowpivot_write(
+pub fn sparrowpivot_write(
     records: &[u8],
     paths: &[u8],
     nodes: &[u8],

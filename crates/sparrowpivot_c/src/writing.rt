@@ -1,0 +1,27 @@
+// An index file written from lent tables into a lent output.
+ghost use Rattle.std.specs.Prelude.{◌≡◌, [], ◌∷◌};
+ghost use Rattle.format.specs.Format.{depth_limit};
+ghost use Rattle.kind.specs.Sha1.{sha1_kind};
+ghost use Rattle.entry.specs.Paths.{lying_in};
+ghost use Rattle.write.specs.File.{write_all};
+ghost use Rattle.sparrowpivot.specs.Told.{told};
+ghost use Rattle.sparrowpivot.specs.Writing.{options_from, tell_write};
+
+// Writes the index file of a table and its tree into out. 0: written, with the version and the size as the first two values; 12: the index of the record; 14: the
+// size needed; 15 and 16: nothing. A refusal leaves out as it was, so an empty out asks for the size.
+#[unsafe(no_mangle)]
+pub extern "C" fn sparrowpivot_write(
+    records: &[u8],
+    paths: &[u8],
+    nodes: &[u8],
+    names: &[u8],
+    options: u32,
+    out: &mut [u8],
+    values: &mut [u64; 8],
+) -> u32
+    ensures { told result values.new (out.new ∷ [])
+        ≡ tell_write
+        (write_all sha1_kind depth_limit records.now (lying_in paths.now) nodes.now names.now (options_from options) out.old) }
+{
+    sparrowpivot::writing::sparrowpivot_write(records, paths, nodes, names, options, out, values)
+}
