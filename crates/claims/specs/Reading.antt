@@ -29,7 +29,7 @@ use Rattle.claims_entries.specs.Rendering.{records_bytes, paths_bytes, sparse_by
 use Rattle.claims_entries.specs.Said as entry
 use Rattle.claims_entries.proofs.Claims as entries
 use Rattle.claims_extension.specs.Said as ext
-use Rattle.claims_extension.specs.Claims as extensions
+use Rattle.claims_extension.proofs.Claims as extensions
 use Rattle.claims_extension.specs.Body.{BodyAt}
 use Rattle.claims_tree.specs.Said as tree
 use Rattle.claims_tree.specs.Claims as trees
