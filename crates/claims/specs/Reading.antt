@@ -16,11 +16,9 @@ use Rattle.extension.specs.declared.decode.Space.{Space}
 use Rattle.extension.specs.declared.decode.Space.TheVariants as of_space
 use Rattle.tree.specs.Tree.{read_tree}
 use Rattle.tree.specs.declared.TreeAnswer.{TreeAnswer}
-use Rattle.tree.specs.declared.TreeAnswer.TheVariants as grown
 use Rattle.file.specs.Trailer.{good_trailer, good_exactly}
 use Rattle.file.specs.Read.{Outcome, grown_into, on_space, extensions_into, with_nodes, after_entries, entries_into, read_file}
 use Rattle.file.specs.declared.Entries.{Entries as Sofar}
-use Rattle.file.specs.declared.Answer.TheVariants as answer
 use Rattle.grammar.specs.Entry.{Meaning}
 use Rattle.grammar.specs.Extension.{Ext, TREE, Extensions, LastSigned}
 use Rattle.grammar.specs.File.{header_length, Sparse, Tells, version_of, count_of, space, GoodHeader}
@@ -29,7 +27,7 @@ use Rattle.claims_entries.specs.Rendering.{records_bytes, paths_bytes, sparse_by
 use Rattle.claims_entries.specs.Said as entry
 use Rattle.claims_entries.proofs.Claims as entries
 use Rattle.claims_extension.specs.Said as ext
-use Rattle.claims_extension.specs.Claims as extensions
+use Rattle.claims_extension.proofs.Claims as extensions
 use Rattle.claims_extension.specs.Body.{BodyAt}
 use Rattle.claims_tree.specs.Said as tree
 use Rattle.claims_tree.specs.Claims as trees

@@ -55,22 +55,25 @@ pub record BodyAt (s : List ℕ) (end place : ℕ) (body : List ℕ) : Type 0 wh
 
 pub body_at : {signature : List ℕ} {place : ℕ} {body : List ℕ} {es : List Ext} (s : List ℕ) (from end : ℕ) → from ≤ end → end ≤ length s → Extensions (extensions_space s from end) es
     → LastSigned signature from es place body → BodyAt s end place body
-body_at s from end ahead inside x (last_signed before {e = e} behind i signed none) =
-    let w = within before e behind x i from in
-    let d : List ℕ = e.body in
-    let place : ℕ = from + bytes_of before + extension_header in
-    let p : from + length w.front ≡ from + bytes_of before + extension_header = w.place_is in
-    let l : length (take end s) ≡ end = length-take-le end s inside in
-    let n : length (drop from (take end s)) ≡ end - from = length-drop from (take end s) ∙ ap (λ (j : ℕ). j - from) l in
-    let m : length (drop from (take end s)) ≡ length w.front + length e.body + length w.rest =
-    ap length w.joins ∙ length-append w.front (d ++ w.rest) ∙ omega (arith, length-append d w.rest) in
-    let h : from + bytes_of before + extension_header + length e.body ≤ end = omega arith in
-    let there : drop place (take end s) ≡ d ++ w.rest =
-    ap (λ (j : ℕ). drop j (take end s)) (sym p) ∙ sym (drop-drop (length w.front) from (take end s)) ∙ ap (λ (a : List ℕ). drop (length w.front) a) w.joins
-    ∙ drop_at w.front (d ++ w.rest) (length w.front) refl in
-    let cuts : take (place + length d) s ≡ take place (take end s) ++ d =
-    sym (take-take (place + length d) end s h) ∙ take-add place (length d) (take end s) ∙ ap (λ (a : List ℕ). take place (take end s) ++ a) (ap (λ (a : List ℕ). take (length d) a) there ∙ take_at d w.rest (length d) refl) in
-    record { fits = h; is = ap (λ (a : List ℕ). drop place a) cuts ∙ drop_at (take place (take end s)) d place (length-take-le place (take end s) (omega arith)) }
+body_at s from end ahead inside x lies = go from ahead x lies
+  where
+    go : (from : ℕ) {signature : List ℕ} {place : ℕ} {body : List ℕ} {es : List Ext} → from ≤ end → Extensions (extensions_space s from end) es → LastSigned signature from es place body → BodyAt s end place body
+    go from ahead x (last_signed before {e = e} behind i signed none) =
+        let w = within before e behind x i from in
+        let d : List ℕ = e.body in
+        let place : ℕ = from + bytes_of before + extension_header in
+        let p : from + length w.front ≡ from + bytes_of before + extension_header = w.place_is in
+        let l : length (take end s) ≡ end = length-take-le end s inside in
+        let n : length (drop from (take end s)) ≡ end - from = length-drop from (take end s) ∙ ap (λ (j : ℕ). j - from) l in
+        let m : length (drop from (take end s)) ≡ length w.front + length e.body + length w.rest =
+        ap length w.joins ∙ length-append w.front (d ++ w.rest) ∙ omega (arith, length-append d w.rest) in
+        let h : from + bytes_of before + extension_header + length e.body ≤ end = omega arith in
+        let there : drop place (take end s) ≡ d ++ w.rest =
+        ap (λ (j : ℕ). drop j (take end s)) (sym p) ∙ sym (drop-drop (length w.front) from (take end s)) ∙ ap (λ (a : List ℕ). drop (length w.front) a) w.joins
+        ∙ drop_at w.front (d ++ w.rest) (length w.front) refl in
+        let cuts : take (place + length d) s ≡ take place (take end s) ++ d =
+        sym (take-take (place + length d) end s h) ∙ take-add place (length d) (take end s) ∙ ap (λ (a : List ℕ). take place (take end s) ++ a) (ap (λ (a : List ℕ). take (length d) a) there ∙ take_at d w.rest (length d) refl) in
+        record { fits = h; is = ap (λ (a : List ℕ). drop place a) cuts ∙ drop_at (take place (take end s)) d place (length-take-le place (take end s) (omega arith)) }
 
 -- a signature that is refused is four bytes of the space
 framed_signature : {b : List ℕ} {e : Ext} → Framed b e → (c : List ℕ) → Bytes (b ++ c) → FourBytes e.signature

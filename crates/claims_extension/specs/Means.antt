@@ -109,6 +109,7 @@ module _ {signature : List ℕ} (four : FourBytes signature) where
     stops : f.stop ≡ file_at (at + bytes_of before + extension_header + length e.body)
 
   last_found : {at : ℕ} {fs : List Found} {f : Found} {es : List Ext} → SameExtensions at fs es → filling.LastSigned (big_endian signature) fs f → Last at f es
+  last_found none_found l = elim l [ ]
   last_found {at} (one_found {e = d} {es = es} x y) (filling.this i n) =
       let z : at + extension_header ≡ at + 0 + extension_header = omega arith in
       record {
@@ -248,6 +249,8 @@ module _ (s : List ℕ) (bytes : Bytes s) (end : ℕ) (inside : end ≤ length s
       fault_behind (record { is_framed = m.is_framed; is_allowed = allowed_if m.says a }) m.here m.size (chain_strays (stop_inside w) c n)
 
   pub chain_refused : {at n : ℕ} {fs : List Found} {e : _} → Chain s end at fs e → filling.FirstForbidden fs n → (signature : List ℕ) × Faulty at (space at) (fault.refused signature) × (n ≡ big_endian signature)
+  chain_refused (chain_filled i q) r = elim r [ ]
+  chain_refused (chain_stray d k) r = elim r [ ]
   chain_refused {at} (chain_more {f = f} w c) (filling.refused_here a) =
       let m = means at f w in
       (m.e.signature, refused_extension (space at) (space f.stop.0) refl done (m.b, m.here, m.is_framed) (refused_if m.says a), m.says.named)

@@ -11,7 +11,7 @@ use Rattle.extension.specs.declared.decode.Space.{Space}
 use Rattle.extension.specs.declared.decode.Space.TheVariants.{Filled, NotFilled, Mandatory}
 use Rattle.grammar.specs.Number.{big_endian}
 use Rattle.grammar.specs.Entry.{Meaning}
-use Rattle.grammar.specs.Extension.{Ext, sdir, TREE, Extensions, NoneSigned, another, LastSigned, last_signed}
+use Rattle.grammar.specs.Extension.{Ext, sdir, TREE, Extensions, NoneSigned, none_left, another, LastSigned, last_signed}
 use Rattle.grammar.specs.File.{directory_mode, Some, this, other, Sparse, by_entry, by_sdir, Tells, it_is, it_is_not}
 use Rattle.grammar.proofs.Fault.{stray, refused, Faulty, fault_unique, fault_not_spelled}
 use Rattle.grammar.proofs.Unique.{extensions_unique}
@@ -101,6 +101,7 @@ last_is_some {signature} (last_signed before {e = e} behind i x n) = rw i (go be
     go (d ∷ before) = other (go before)
 
 pub none_is_some : {signature : List ℕ} {es : List Ext} → NoneSigned signature es → Some (λ (e : Ext). e.signature ≡ signature) es → ⊥
+none_is_some none_left x = elim x [ ]
 none_is_some (another d n) (this x) = d x
 none_is_some (another d n) (other x) = none_is_some n x
 

@@ -83,7 +83,7 @@ length-take-most (suc n) (x ∷ l) = omega (arith, length-take-most n l)
 
 -- what does not begin with "DIRC" is not read
 not_read : (s rs ps ns : List ℕ) → Slices s ps ns → (32 ≤ length s → ¬ (take 4 s ≡ DIRC)) → ¬ IsRead (reader s rs ps ns).answer
-not_read s rs ps ns slices other (version, sparse, tree, records, used, nodes, e) =
+not_read s rs ps ns slices other (version, sparse, _, records, used, nodes, e) =
     ⊎_elim
     (λ h. let f = (refusal_1_exactly sha1_kind s rs ps ns slices).1 h in let z : ◌≡◌ {A = ℕ} 0 1 = cc in omega arith)
     (λ h. let f = (refusal_2_exactly sha1_kind s rs ps ns slices).1 (h, other h) in let z : ◌≡◌ {A = ℕ} 0 1 = cc in omega arith)

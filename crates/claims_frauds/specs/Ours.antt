@@ -5,7 +5,6 @@ use Rattle.std.proofs.lemmas.Bool.{false≢true}
 use Rattle.laws.specs.Pick.{pick}
 use Rattle.wire.specs.Places.{file_at}
 use Rattle.format.specs.Format.{depth_limit, id_size}
-use Rattle.sha1_hash.specs.Sha1.{sha1}
 use Rattle.sha1_hash.specs.Pieces as pieces
 use Rattle.sha1_hash.specs.Theorems.{each_prefix_finishes}
 use Rattle.sha1_hash.specs.declared.Digest.{Digest}

@@ -244,7 +244,7 @@ eoie_left_out_fails write read lookup left demand =
     let n = left table paths [] [] o out version size e (extensions_in x) (has_extensions x (writable_ends table paths witness.writable)) in
     by x.tree x.sparse_part_lem x.eoie_part_lem (none_behind EOIE x.sparse x.eoie (none_behind EOIE x.tree (x.sparse ++ x.eoie) n))
   where
-    by : {at : ℕ} {m l : List Ext} (t : List Ext) → SparsePart sha1_kind witness.with_eoie m → EoiePart sha1_kind table witness.with_eoie at (t ++ m) l → NoneSigned EOIE l → ⊥
+    by : {at : ℕ} (t : List Ext) {m l : List Ext} → SparsePart sha1_kind witness.with_eoie m → EoiePart sha1_kind table witness.with_eoie at (t ++ m) l → NoneSigned EOIE l → ⊥
     by t (sparse_marked e) (eoie_asked_lem a b c) n = not_first n
     by t (sparse_marked e) (eoie_not_asked k) n = k refl witness.some_record (omega (arith, length-append t (ext sdir [] ∷ [])))
     by t (not_marked e) k n = true≢false e

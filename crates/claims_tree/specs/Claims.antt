@@ -13,7 +13,6 @@ use Rattle.format.specs.Format.{id_room}
 use Rattle.node.specs.Head.{minus_one}
 use Rattle.tree.specs.declared.Step.TheVariants.{Read, Stops}
 use Rattle.tree.specs.declared.Fault.TheVariants.{Unspelled}
-use Rattle.tree.specs.declared.TreeAnswer.{TreeAnswer}
 use Rattle.tree.specs.declared.TreeAnswer.TheVariants.{Tree as IsTree, Malformed, TooDeep, NoRoom}
 use Rattle.tree.specs.Tree.{Out, and_then, node_at, alone, root_at, wiped, read_tree}
 use Rattle.tree.specs.Frame.{node_kept}

@@ -1,6 +1,6 @@
 -- The premises can be met, and matter: under every limit a chain of as many nodes is read into room for as many, room for one less gives 10,
 -- and a chain of one more gives 9. Assumes nothing.
-use Rattle.std.specs.Prelude.{ℕ, zero, suc, ◌+◌, ◌-◌, ◌*◌, ◌^◌, ◌≤◌, ◌<◌, ◌≡◌, refl, List, [], ◌∷◌, ◌++◌, length}
+use Rattle.std.specs.Prelude.{ℕ, zero, suc, ◌+◌, ◌-◌, ◌*◌, ◌^◌, ◌<◌, ◌≡◌, refl, List, [], ◌∷◌, ◌++◌, length}
 use Rattle.std.proofs.Common.{sym, subst, append-nil, arith, lit≤}
 use Rattle.std.proofs.Math.Seq.{take-length}
 use Rattle.tree.specs.declared.TreeAnswer.TheVariants.{Tree as IsTree, TooDeep, NoRoom}

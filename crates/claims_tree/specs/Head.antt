@@ -133,8 +133,11 @@ module _ (n : ℕ) (s : List ℕ) (at end : ℕ) (ahead : at ≤ end) (inside : 
     where
       counted : {stop : ℕ} (name : List ℕ) → Lies s at end (name ++ (0 ∷ [])) → stop ≡ at + length name → NoNul name → {g : Signed} → SaysSigned s (stop + 1) end g → SaysHead n s at end (counted_at n s end at stop g)
       counted name l e y no_count = nothing
-      counted {stop} name l e y (count b m z counts_plain) = joined name b l e y m z sized (behind_says s (stop + 1 + length b) end at stop _ n inside)
-      counted {stop} name l e y (count b m z counts_negative) = joined name b l e y m z unsized (behind_says s (stop + 1 + length b) end at stop minus_one 0 inside)
+      counted {stop} name l e y (count b m z k) = by b m z k
+        where
+          by : (b : List ℕ) {c : Count} {g : Signed} → Lies s (stop + 1) end b → SignedNumber b c → Counts c (stop + 1 + length b) g → SaysHead n s at end (counted_at n s end at stop g)
+          by b m z counts_plain = joined name b l e y m z sized (behind_says s (stop + 1 + length b) end at stop _ n inside)
+          by b m z counts_negative = joined name b l e y m z unsized (behind_says s (stop + 1 + length b) end at stop minus_one 0 inside)
 
       of : {g : Ends} → SaysNul s at end g → SaysHead n s at end (named_at n s end at g)
       of never = nothing

@@ -1,5 +1,5 @@
 -- The children of a node in the store, in file order: `siblings_differ` says yes exactly if their names differ as the grammar asks. Assumes nothing.
-use Rattle.std.specs.Prelude.{ℕ, ◌+◌, ◌-◌, ◌≤◌, ◌<◌, ◌≡◌, refl, List, [], ◌∷◌, Bool, true, false, ◌⊎◌}
+use Rattle.std.specs.Prelude.{ℕ, ◌+◌, ◌≤◌, ◌<◌, ◌≡◌, refl, List, [], ◌∷◌, Bool, true, false, ◌⊎◌}
 use Rattle.std.proofs.Common.{sym, ap, ◌∙◌, inl, inr, ⊎_elim, arith}
 use Rattle.laws.specs.Tests.{lt_or_ge}
 use Rattle.node.specs.Store.{parent_at, name_at}
@@ -17,9 +17,9 @@ pub data Children (s ns : List ℕ) (me : ℕ) : ℕ → ℕ → List (List ℕ)
       → Children s ns me j u names → Children s ns me i u (name ∷ names)
 
 module _ {s ns : List ℕ} {me : ℕ} where
-  other_name : {i u : ℕ} {name : List ℕ} {names : List (List ℕ)} → Other name names → Children s ns me i u names → (k : ℕ) → i ≤ k → k < u → parent_at ns k ≡ me → name ≡ name_at s ns k → ⊥
+  other_name : {name : List ℕ} {i u : ℕ} {names : List (List ℕ)} → Other name names → Children s ns me i u names → (k : ℕ) → i ≤ k → k < u → parent_at ns k ≡ me → name ≡ name_at s ns k → ⊥
   other_name alone no_more k h l p e = omega arith
-  other_name {i} {name = name} (differs d o) (child {j = j} q r m n c) k h l p e = by (lt_or_ge k j) (lt_or_ge i k) (λ a. other_name o c k a l p e)
+  other_name {name} {i} (differs d o) (child {j = j} q r m n c) k h l p e = by (lt_or_ge k j) (lt_or_ge i k) (λ a. other_name o c k a l p e)
     where
       by : (k < j) ⊎ (j ≤ k) → (i < k) ⊎ (k ≤ i) → (j ≤ k → ⊥) → ⊥
       by (inr a) b ih = ih a

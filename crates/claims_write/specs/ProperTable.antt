@@ -17,13 +17,13 @@ use Rattle.siblings.specs.Siblings.{is_child}
 use Rattle.siblings.specs.InOrder.{Distinct as DistinctAt, differ_distinct, distinct_differ}
 use Rattle.walk_order.specs.Depth.{level_climbs}
 use Rattle.tree_write.specs.Order.{false_true}
-use Rattle.proper.specs.Proper.{is_never, holds_none, climbs, child_count, is_proper}
+use Rattle.proper.specs.Proper.{is_never, holds_none, child_count, is_proper}
 use Rattle.proper.specs.Table.{Proper, proper_exactly}
 use Rattle.tree_write.specs.Kids.{Mem, here, there, not_mem, Rising, done, more}
 use Rattle.grammar.specs.Entry.{NoNul}
 use Rattle.grammar.specs.Entry.NoNul.{empty, byte}
 use Rattle.grammar.specs.Tree.{Other, differs as other_differs, Distinct, one_more_lem}
-use Rattle.claims_write.specs.Tree.{no_nul, distinct_names, Level, root, below, level_within}
+use Rattle.claims_write.specs.Tree.{no_nul, distinct_names, Level, level_within}
 use Rattle.claims_write.specs.Count.{level_found}
 use Rattle.claims_write.specs.Stored.{first_or_later}
 

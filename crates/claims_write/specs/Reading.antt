@@ -13,7 +13,6 @@ use Rattle.laws.specs.Read.{Begins}
 use Rattle.laws.specs.Times.{Times, done, more}
 use Rattle.format.specs.Format.{depth_limit}
 use Rattle.kind.specs.Kind.{Kind}
-use Rattle.kind.specs.Trailer.{trailer}
 use Rattle.entry.specs.Paths.{Paths, lying_in}
 use Rattle.entry.specs.Record.{records_in}
 use Rattle.grammar.specs.Entry.{Meaning, start, Entries}

@@ -19,7 +19,7 @@ use Rattle.siblings.specs.InOrder.{Distinct as DistinctAt, differ_distinct}
 pub use Rattle.walk_order.specs.Depth.{Level, root, below, level_within}
 use Rattle.tree_write.specs.Order.{before, false_true, before_not, before_names}
 use Rattle.tree_write.specs.Tree.{after, count_bytes, front_bytes, number_bytes, id_bytes, head_bytes, kids, each, node_bytes}
-use Rattle.proper.specs.Proper.{is_never, holds_none, climbs, child_count}
+use Rattle.proper.specs.Proper.{is_never, holds_none, child_count}
 use Rattle.proper.specs.Table.{Proper}
 use Rattle.tree_write.specs.Kids.{Mem, here, there, Rising, done, more, top, tally_all, cand, goes}
 use Rattle.grammar.specs.Number.{Digit, Digits, last_digit, digit, Count, covers, invalid, Signed, minus}
@@ -177,6 +177,7 @@ no_hits (x ∷ l) j h = by (same? x j) (no_hits l j (λ m. h (there m)))
 
 pub one_hit : (R : ℕ → ℕ → Type 0) → ((x : ℕ) → R x x → ⊥) → {l : List ℕ} → Rising R l → (j : ℕ) → Mem j l → hits l j ≡ 1
 unfolding hits
+one_hit R irr done j m = elim m [ ]
 one_hit R irr (more {x = x} {xs = l} r rest) j m = go x r m (λ k. one_hit R irr rest j k)
   where
     go : (x : ℕ) → ((y : ℕ) → Mem y l → R x y) → Mem j (x ∷ l) → (Mem j l → hits l j ≡ 1) → pick (eqb x j) 1 0 + hits l j ≡ 1

@@ -125,7 +125,7 @@ module _ (n limit : ℕ) (ns nm : List ℕ) (small : n ≤ id_room) (few : lengt
           (tri j k)
 
       each_node : (j : ℕ) → j < nodes_in ns → SameNode n ns nm (at j) s ms j
-      each_node zero h = subst (λ (i : ℕ). SameNode n ns nm i s ms 0) (sym at_first) whole.own_val
+      each_node zero h = subst (λ (i : ℕ). SameNode n ns nm i s ms 0) (sym at_first) whole.own
       each_node (suc j) h =
           let e : 0 + 1 + j ≡ suc j = omega arith in
           subst (λ (i : ℕ). SameNode n ns nm i s ms (suc j)) (sym (at_later j))

@@ -2,7 +2,7 @@
 -- answer of which its rule holds, and the only one. Filled, with the mark and, for each signature that the reader goes into, the last body, exactly if extensions that may stand
 -- fill the space; 7 and 8 exactly where the grammar has that fault. Assumes that the file is bytes and that the space lies in it, each a premise with a name.
 use Rattle.std.specs.Prelude.{ℕ, ◌+◌, ◌≤◌, ◌≡◌, refl, Bool, List, ◌↔◌, length}
-use Rattle.std.proofs.Common.{sym, subst, ◌∙◌}
+use Rattle.std.proofs.Common.{sym, subst}
 use Rattle.wire.specs.Places.{file_at}
 use Rattle.extension.specs.Decode.{all_at}
 use Rattle.extension.proofs.Filling.{SaysAll, is_filled, is_not_filled, is_mandatory, all_says}

@@ -16,7 +16,7 @@ use Rattle.grammar.proofs.DecideExtension.{none_not_last}
 use Rattle.claims_entries.specs.Rendering.{Bytes}
 use Rattle.claims_extension.specs.Words.{all_bytes, bytes_if}
 use Rattle.claims_extension.specs.Said.{extensions_space, SaysBody, says_lies, SaysExtensions, says_filled}
-use Rattle.claims_extension.specs.Claims.{says_exactly}
+use Rattle.claims_extension.proofs.Claims.{says_exactly}
 
 -- ---- met: an empty `sdir`, and a TREE of one byte
 
