@@ -84,9 +84,9 @@ on_left (Bytes n) few good = good n
 on_left TooFew few good = few
 
 abbrev pub on_head : Head → Measured → Measured → (ℕ → ℕ → ℕ → Measured) → Measured
-on_head (Fixed flags size field) short fault good = good flags size field
-on_head Unfinished short fault good = short
-on_head Spoiled short fault good = fault
+on_head (Fixed flags size field) few spoiled good = good flags size field
+on_head Unfinished few spoiled good = few
+on_head Spoiled few spoiled good = spoiled
 
 -- versions 2 and 3
 unfoldable pub padded_at : List ℕ → ℕ → ℕ → ℕ → ℕ → ℕ → Measured
