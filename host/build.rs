@@ -37,7 +37,7 @@ fn built_folder() -> PathBuf {
     if !target_is("ARCH", std::env::consts::ARCH) || !target_is("OS", "linux") {
         fail(
             "the static library is built for the machine at hand, and for Linux; SPARROWPIVOT_LIB_DIR may name the \
-             folder of one for another machine (`rt staticlib sparrowpivot` makes one for x86-64 Linux)",
+             folder of one for another machine (`rt lib` in crates/sparrowpivot_c makes one for x86-64 Linux)",
         );
     }
     let host = Path::new(env!("CARGO_MANIFEST_DIR"));

@@ -1,6 +1,6 @@
 -- Demand 2: in a strictly sorted table lookup at stages 0 to 3 says absent exactly when no record has that path and stage, and found i exactly when record i has
 -- them; there is at most one such record. Assumes nothing.
-use Rattle.std.specs.Prelude.{◌≡◌, refl, List, ◌⊎◌, ℕ, zero, suc, ◌+◌, ◌-◌, ◌/◌, ◌≤◌, ◌<◌}
+use Rattle.std.specs.Prelude.{◌≡◌, refl, List, ℕ, zero, suc, ◌+◌, ◌-◌, ◌/◌, ◌≤◌, ◌<◌}
 use Rattle.std.proofs.Common.{sym, ap, ◌∙◌, ⊎_elim, arith, lt-ltb, le-ltb}
 use Rattle.laws.specs.Tests.{lt_or_ge, tri}
 use Rattle.entry.specs.Paths.{Paths}

@@ -1,6 +1,6 @@
 -- The order of records (01, Order and lookup: "Order is by path bytes, unsigned, a prefix first, then stage"): as a relation, `Precedes`, and as the walk that
 -- decides it; and how many leading bytes of two paths agree. Assumes nothing.
-use Rattle.std.specs.Prelude.{◌≡◌, refl, List, [], ◌∷◌, ◌⊎◌, ℕ, suc, ◌+◌, ◌<◌, ◌≤◌, length, drop, ltb, eqb}
+use Rattle.std.specs.Prelude.{◌≡◌, refl, List, [], ◌∷◌, ℕ, suc, ◌+◌, ◌<◌, ◌≤◌, length, drop, ltb, eqb}
 use Rattle.std.proofs.Common.{sym, subst, ⊎_elim, arith, lt-ltb, le-ltb}
 use Rattle.laws.specs.Pick.{pick}
 use Rattle.laws.specs.Tests.{tri}

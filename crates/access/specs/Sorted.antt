@@ -1,6 +1,6 @@
 -- What a sorted table is (01, Order and lookup: "strict from record to record, each path in its store"), said without the check, and that the check answers
 -- exactly this: yes if the table is sorted, and otherwise 12 or 13 at the first record that fails. Assumes nothing.
-use Rattle.std.specs.Prelude.{◌≡◌, Bool, true, false, List, ◌⊎◌, length}
+use Rattle.std.specs.Prelude.{◌≡◌, Bool, true, false, List, length}
 use Rattle.std.proofs.Math.Path.{refl}
 use Rattle.std.proofs.Common.{sym, ap, ◌∙◌, ⊎_elim, le-leb, leb-true, eq-eqb, ne_eqb}
 use Prim.Native.Nat.{ℕ, zero, suc, ◌+◌, ◌-◌, ◌≤◌, ◌<◌}

@@ -1,6 +1,6 @@
 -- How many records a lookup compares: the count that it answers is the halving rule's own steps, and at most 1 plus the whole part of the logarithm of the number
 -- of records (01, Order and lookup). Assumes nothing.
-use Rattle.std.specs.Prelude.{◌≡◌, Bool, ◌⊎◌, List, ℕ, zero, suc, ◌+◌, ◌-◌, ◌/◌, ◌^◌, ◌≤◌, ◌<◌, ltb}
+use Rattle.std.specs.Prelude.{◌≡◌, Bool, List, ℕ, zero, suc, ◌+◌, ◌-◌, ◌/◌, ◌^◌, ◌≤◌, ◌<◌, ltb}
 use Rattle.std.proofs.Math.Path.{refl}
 use Rattle.std.proofs.Common.{ap, ◌∙◌, ⊎_elim, one-add, arith, lt-ltb, le-ltb}
 use Rattle.std.proofs.Math.Bool.{true, false}

@@ -1,6 +1,6 @@
 -- The premises can be met, and matter: an entry that two stores of just its size hold; a store of one byte less gives refusal 6, and a space of one byte less refusal 5.
 -- Assumes nothing.
-use Rattle.std.specs.Prelude.{ℕ, zero, suc, ◌+◌, ◌≤◌, ◌<◌, ◌≡◌, refl, List, [], ◌∷◌, ◌++◌, Bool, true, false, ltb, get_or, replicate}
+use Rattle.std.specs.Prelude.{ℕ, zero, suc, ◌<◌, ◌≡◌, refl, List, [], ◌∷◌, ◌++◌, Bool, true, false, ltb, get_or, replicate}
 use Rattle.std.proofs.Common.{sym, subst, inl, inr, arith, lit≤, lit<}
 use Rattle.laws.specs.Pick.{pick}
 use Rattle.laws.specs.Read.{Begins, refuses}

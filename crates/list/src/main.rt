@@ -4,8 +4,8 @@
 
 // The descriptors of standard input and output.
 const STDIN_FILENO: i32 = 0;
-const STDOUT_FILENO: i32 = 1;
 
+const STDOUT_FILENO: i32 = 1;
 
 // Prints the listing of a file. Every listing fits, so that no part of one is ever held back.
 fn print(file: &[u8]) {

@@ -55,7 +55,7 @@ use Rattle.sums.specs.Cap.{cap, cap_fits}
 use Rattle.lines.proofs.Laws.{line_length, digits_fit, refused_carried, refused_alone}
 use Rattle.wire.specs.Written.{digits_of}
 use Rattle.kind.specs.Sha1.{sha1_kind}
-use Rattle.list_text.specs.Listed.{text_of, text_of_outcome, too_big, listed}
+use Rattle.list_text.specs.Listed.{text_of, text_of_outcome, listed}
 
 -- a line but for its path: six digits, a space, two digits for each byte of an id, a space, the stage, a tab and the newline
 abbrev pub line_size : ℕ

@@ -2,7 +2,7 @@
 use Prim.Native.Nat.{ℕ, zero, suc, ◌+◌, ◌-◌, ◌*◌, ◌%◌, ◌≤◌, ◌<◌}
 use Rattle.std.proofs.Math.Path.{◌≡◌, refl, ap}
 use Rattle.std.proofs.Common.{sym, ◌∙◌, ⊎_elim, arith, length-append, length-take-le, get_or-take, lit<}
-use Rattle.std.specs.Prelude.{Bool, List, ◌++◌, ◌⊎◌, length, take, drop, replicate, eqb}
+use Rattle.std.specs.Prelude.{Bool, List, ◌++◌, length, take, drop, replicate, eqb}
 use Rattle.std.proofs.Math.Bool.{true, false}
 use Rattle.std.proofs.Math.ListN.{get_or, get_or-append}
 use Rattle.std.proofs.lemmas.List.{length-replicate}

@@ -20,7 +20,7 @@ use Rattle.walk_order.specs.Walk.{walks}
 use Rattle.walk_order.specs.Child.{false_true}
 use Rattle.walk_order.specs.Depth.{all_end, all_more, all_not, each_all, walks_within, within_climbs}
 use Rattle.proper.specs.Proper.{parent_fits, count_fits, holds_none, name_fits, climbs, node_fits, child_count, kids_fit, all_in, nodes_fit, all_kids_fit, is_proper}
-use Rattle.proper.specs.Table.{Proper, proper_exactly}
+use Rattle.proper.specs.Table.{proper_exactly}
 
 -- ---- one node
 

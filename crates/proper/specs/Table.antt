@@ -1,11 +1,10 @@
 -- The test of a table says what 01 lists: a table passes exactly if it is proper. Over the depth and over all tables. Assumes nothing.
-use Rattle.std.specs.Prelude.{Bool, false, ◌≡◌, refl, ◌⊎◌, ◌↔◌, List, ℕ, zero, suc, ◌+◌, ◌-◌, ◌≤◌, ◌<◌, ltb, eqb}
+use Rattle.std.specs.Prelude.{Bool, false, ◌≡◌, refl, ◌⊎◌, ◌↔◌, List, ℕ, ◌-◌, ◌<◌, ltb, eqb}
 use Rattle.std.proofs.Math.Bool.{true}
 use Rattle.std.proofs.Math.Path.{ap}
-use Rattle.std.proofs.Common.{◌∙◌, subst, inl, inr, ⊎_elim, pos_of_ne-zero, arith}
+use Rattle.std.proofs.Common.{◌∙◌, inl, inr, pos_of_ne-zero, arith}
 use borrow.Author.Tests.{lt-ltb, eq-eqb, ltb-true, eqb-true, eqb-false}
 use Rattle.laws.specs.Pick.{pick}
-use Rattle.laws.specs.Tests.{lt_or_ge}
 use Rattle.node.specs.Head.{count_half, minus_one}
 use Rattle.node.specs.Store.{nodes_in, count_at, subtrees_at, parent_at, name_inside, name_at}
 use Rattle.siblings.specs.Siblings.{siblings_differ}

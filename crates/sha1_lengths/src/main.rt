@@ -6,7 +6,6 @@
 // The descriptor of standard output.
 const STDOUT_FILENO: i32 = 1;
 
-
 const LONGEST: usize = 200;
 
 // The longest message.

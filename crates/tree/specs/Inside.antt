@@ -1,10 +1,10 @@
 -- What holds of every node that a reading stores: proved once over a property of a node in the store, by induction on the depth. Then, of parents: each lies before
 -- its child, and in the subtree that was read. Assumes nothing.
-use Rattle.std.specs.Prelude.{Bool, ◌≡◌, ◌⊎◌, get_or}
+use Rattle.std.specs.Prelude.{Bool, ◌≡◌, get_or}
 use Rattle.std.proofs.Math.Path.{refl}
 use Rattle.std.proofs.Common.{sym, ap, subst, ◌∙◌, ⊎_elim, arith, lit≤}
 use mathlib.Core.List.{List}
-use Prim.Native.Nat.{ℕ, zero, suc, ◌+◌, ◌*◌, ◌-◌, ◌/◌, ◌^◌, ◌≤◌, ◌<◌}
+use Prim.Native.Nat.{ℕ, zero, suc, ◌+◌, ◌*◌, ◌/◌, ◌^◌, ◌≤◌, ◌<◌}
 use Rattle.std.proofs.Math.ListN.{length}
 use Rattle.laws.specs.Pick.{pick}
 use Rattle.laws.specs.Tests.{AtMost, at_most, above, at_most?, lt_or_ge}

@@ -10,6 +10,7 @@ use tree::TreeAnswer;
 
 // The descriptors of standard input and output.
 const STDIN_FILENO: i32 = 0;
+
 const STDOUT_FILENO: i32 = 1;
 
 // Room for all bodies.

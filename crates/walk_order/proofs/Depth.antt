@@ -10,7 +10,6 @@ use Rattle.laws.specs.Pick.{pick}
 use Rattle.format.specs.Format.{depth_limit}
 use Rattle.node.specs.Store.{nodes_in, parent_at}
 use Rattle.walk_order.specs.Walk.{climbs_to, walks_from, walks}
-use Rattle.walk_order.specs.Child.{false_true}
 use Rattle.walk_order.specs.Depth.{climbs, all_in, walks_within, Level, root, below, level_some, level_up, level_within, level_climbs, Climbed}
 use Rattle.walk_order.proofs.Laws.{climb_up}
 

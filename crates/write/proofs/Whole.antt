@@ -7,7 +7,6 @@ use native.Mathlib.Omega.{arith}
 use lib.ListN.{length, take, drop, length-append}
 use lib.Seq.{paste, take_at, length-take-le}
 use borrow.Author.Tests.{lt-ltb, le-ltb, le-leb}
-use Rattle.laws.specs.Pick.{pick}
 use Rattle.laws.specs.Put.{put_then, put, put_none, put_front, length-put, paste_put}
 use Rattle.wire.specs.BigEndian.{bytes_of, length-bytes}
 use Rattle.sums.specs.Cap.{cap, cap_fits, cap_cap, cap_cap_right}

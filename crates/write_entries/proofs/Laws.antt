@@ -7,11 +7,11 @@ use native.Mathlib.Nat.{sub-zero}
 use native.Mathlib.Omega.{arith}
 use lib.Dec.{ltb, leb}
 use lib.ListN.{length, take, drop, replicate, length-append, length-replicate, drop_of_length-le}
-use lib.Seq.{paste, length-paste, take_at, take_all, length-take-le}
+use lib.Seq.{paste, take_at, take_all, length-take-le}
 use borrow.Author.Tests.{lt-ltb, le-ltb, lt-leb, leb-true, ltb-true}
 use Rattle.laws.specs.Pick.{pick}
 use Rattle.laws.specs.Paste.{paste_take, paste_then}
-use Rattle.laws.specs.Put.{put, put_none, put_front, put_put, length-put, paste_put}
+use Rattle.laws.specs.Put.{put, put_none, put_put, length-put, paste_put}
 use Rattle.wire.specs.BigEndian.{bytes_of, length-bytes}
 use Rattle.sums.specs.Cap.{cap}
 use Rattle.format.specs.Format.{fixed_extended_size, fixed_size, fields_size, id_size}

@@ -1,13 +1,12 @@
 -- WHERE THERE IS ROOM FOR THE WHOLE TABLE the filling pass puts its bytes at the place, and answers where they end. Over the id's length and over all tables.
 -- Assumes nothing.
 use Prim.Native.Nat.{ℕ, zero, suc, ◌+◌, ◌≤◌}
-use Rattle.std.specs.Prelude.{Bool, true, false, ◌≡◌, refl, leb}
+use Rattle.std.specs.Prelude.{◌≡◌}
 use Rattle.std.proofs.Math.Path.{sym}
-use Rattle.std.proofs.Common.{ap, ◌∙◌, le-leb}
-use mathlib.Core.List.{List, [], ◌++◌}
+use Rattle.std.proofs.Common.{◌∙◌, le-leb}
+use mathlib.Core.List.{List, ◌++◌}
 use native.Mathlib.Omega.{arith}
 use Rattle.std.proofs.Math.ListN.{length, length-append}
-use Rattle.laws.specs.Pick.{pick}
 use Rattle.laws.specs.Put.{put, put_none, put_put, length-put}
 use Rattle.entry.specs.Paths.{Paths}
 use Rattle.entry.specs.Record.{records_in}

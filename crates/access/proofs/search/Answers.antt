@@ -1,9 +1,4 @@
 use Rattle.access.proofs.Laws.{laws}
-use mathlib.Core.Path.{◌≡◌}
-use Prim.Native.Nat.{◌+◌, ◌-◌, ◌≤◌}
-use Rattle.entry.specs.Paths.{lying_in}
-use Rattle.entry.specs.Record.{records_in}
-use Rattle.access.specs.Lookup.{probe_at, halve, search_at}
 use borrow.Author.Rules.{rules}
 use Rattle.access.proofs.search.Goals as goal
 

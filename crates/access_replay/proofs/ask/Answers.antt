@@ -3,7 +3,6 @@ use mathlib.Core.Path.{sym}
 use Prim.Native.Nat.{◌*◌}
 use native.Mathlib.Omega.{arith}
 use lib.Seq.{length-take-le}
-use borrow.Author.Rules.{rules}
 use Rattle.access_replay.proofs.ask.Goals as goal
 
 pub slice_bounds-lent-end : goal.slice_bounds-lent-end

@@ -1,7 +1,6 @@
 -- `access_replay::ask_each` is safe and ends. Assumes nothing.
 use Prim.Native.Nat.{◌-◌, ◌≤◌}
 use lib.ListN.{length}
-use borrow.Author.Rules.{rules}
 use Rattle.access_replay.proofs.ask_each.Given as goal
 
 abbrev pub invariant-loop-at : goal.invariant-loop-at

@@ -1,6 +1,3 @@
-use mathlib.Core.Path.{◌≡◌}
-use Prim.Native.Nat.{◌+◌, ◌-◌, ◌*◌, ◌≤◌}
-use lib.ListN.{length}
 use Rattle.access_replay.proofs.Laws.{length-after}
 use borrow.Author.Rules.{rules}
 use Rattle.access_replay.proofs.table.Goals as goal

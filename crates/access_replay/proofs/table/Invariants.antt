@@ -2,8 +2,6 @@
 use mathlib.Core.Path.{◌≡◌}
 use Prim.Native.Nat.{◌+◌, ◌-◌, ◌*◌, ◌≤◌}
 use lib.ListN.{length}
-use Rattle.access_replay.proofs.Laws.{length-after}
-use borrow.Author.Rules.{rules}
 use Rattle.access_replay.proofs.table.Given as goal
 
 abbrev pub invariant-loop-i : goal.invariant-loop-i

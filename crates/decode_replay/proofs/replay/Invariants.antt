@@ -1,6 +1,5 @@
 -- `decode_replay::replay` meets its contract. The invariant: no more cases than bytes passed, and each case passes some. Assumes nothing.
 use Prim.Native.Nat.{◌≤◌, ◌<◌, ◌-◌}
-use borrow.Author.Rules.{rules}
 use Rattle.decode_replay.proofs.replay.Given as goal
 
 abbrev pub invariant-loop-base : goal.invariant-loop-base

@@ -1,6 +1,5 @@
 -- `entry::put_rest` meets its contract. Five pastes side by side are one. Assumes nothing.
 use Rattle.entry.proofs.Laws.{rest_put}
-use borrow.Author.Rules.{rules}
 use Rattle.entry.proofs.put_rest.Goals as goal
 
 pub returns : goal.returns

@@ -1,6 +1,5 @@
 -- `extension_replay::found` is safe and ends. The invariant: k is at most the number of pairs. Assumes nothing.
 use Prim.Native.Nat.{◌≤◌, ◌-◌}
-use borrow.Author.Rules.{rules}
 use Rattle.extension_replay.proofs.found.Given as goal
 
 abbrev pub invariant-loop-k : goal.invariant-loop-k

@@ -1,6 +1,5 @@
 -- `extension_replay::table` is safe and ends. The invariant: k is at most the number of pairs. Assumes nothing.
 use Prim.Native.Nat.{◌≤◌, ◌-◌}
-use borrow.Author.Rules.{rules}
 use Rattle.extension_replay.proofs.table.Given as goal
 
 abbrev pub invariant-loop-k : goal.invariant-loop-k

@@ -1,9 +1,7 @@
 -- `extension_replay::unhex` is safe and ends. The invariant: the store has its length, and the bytes so far lie in it; the measure is what is left of the text. Assumes nothing.
 use mathlib.Core.Path.{◌≡◌}
 use Prim.Native.Nat.{◌≤◌, ◌-◌}
-use lib.ListN.{length, length-set}
-use native.Mathlib.Omega.{arith}
-use borrow.Author.Rules.{rules}
+use lib.ListN.{length}
 use Rattle.extension_replay.proofs.unhex.Given as goal
 
 abbrev pub invariant-loop-i : goal.invariant-loop-i

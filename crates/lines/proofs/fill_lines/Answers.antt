@@ -1,11 +1,4 @@
-use mathlib.Core.Path.{◌≡◌}
-use Prim.Native.Nat.{◌+◌, ◌-◌, ◌≤◌}
-use lib.ListN.{length}
-use Rattle.laws.specs.Put.{put}
-use Rattle.lines.specs.Lines.{lines_from}
 use borrow.Author.Rules.{rules}
-use Rattle.format.specs.Format.{id_size}
-use Rattle.entry.specs.Paths.{lying_in}
 use Rattle.lines.proofs.Laws.{laws}
 use Rattle.lines.proofs.fill_lines.Goals as goal
 

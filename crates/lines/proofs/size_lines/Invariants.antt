@@ -4,10 +4,8 @@ use mathlib.Core.Path.{◌≡◌}
 use Prim.Native.Nat.{◌+◌, ◌-◌, ◌≤◌}
 use lib.ListN.{length}
 use Rattle.lines.specs.Lines.{lines_from}
-use borrow.Author.Rules.{rules}
 use Rattle.format.specs.Format.{id_size}
 use Rattle.entry.specs.Paths.{lying_in}
-use Rattle.lines.proofs.Laws.{laws}
 use Rattle.lines.proofs.size_lines.Given as goal
 
 abbrev pub invariant-loop-i : goal.invariant-loop-i

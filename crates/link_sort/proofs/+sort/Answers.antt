@@ -1,6 +1,5 @@
 use borrow.Author.Rules.{rules}
 use Rattle.link_sort.proofs.Laws.{sorts}
-use Prim.Native.Nat.{ℕ, ◌<◌}
 use Rattle.link_sort.proofs.+sort.Goals as goal
 
 pub lone-requires : goal.lone-requires

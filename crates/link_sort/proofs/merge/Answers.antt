@@ -1,6 +1,3 @@
-use mathlib.Core.Path.{◌≡◌}
-use lib.ListN.{length}
-use Rattle.link_sort.specs.Runs.{merge_run}
 use borrow.Author.Rules.{rules}
 use Rattle.link_sort.proofs.Laws.{sorts}
 use Rattle.link_sort.proofs.merge.Goals as goal

@@ -2,8 +2,6 @@
 use mathlib.Core.Path.{◌≡◌}
 use lib.ListN.{length}
 use Rattle.link_sort.specs.Runs.{merge_run}
-use borrow.Author.Rules.{rules}
-use Rattle.link_sort.proofs.Laws.{sorts}
 use Rattle.link_sort.proofs.merge.Given as goal
 
 abbrev pub invariant-loop-left : goal.invariant-loop-left

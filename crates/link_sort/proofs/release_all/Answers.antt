@@ -1,6 +1,3 @@
-use mathlib.Core.Path.{◌≡◌}
-use lib.ListN.{length}
-use Rattle.link_sort.specs.Runs.{walk_run}
 use borrow.Author.Rules.{rules}
 use Rattle.link_sort.proofs.Laws.{walks}
 use Rattle.link_sort.proofs.release_all.Goals as goal

@@ -2,8 +2,6 @@
 use mathlib.Core.Path.{◌≡◌}
 use lib.ListN.{length}
 use Rattle.link_sort.specs.Runs.{walk_run}
-use borrow.Author.Rules.{rules}
-use Rattle.link_sort.proofs.Laws.{walks}
 use Rattle.link_sort.proofs.release_all.Given as goal
 
 abbrev pub invariant-loop-left : goal.invariant-loop-left

@@ -1,7 +1,3 @@
-use mathlib.Core.Path.{◌≡◌}
-use Prim.Native.Nat.{◌+◌, ◌≤◌}
-use lib.ListN.{length}
-use Rattle.link_sort.specs.Runs.{strung_from, strung_kids}
 use borrow.Author.Rules.{rules}
 use Rattle.link_sort.proofs.Laws.{walks}
 use Rattle.link_sort.proofs.string_kids.Goals as goal

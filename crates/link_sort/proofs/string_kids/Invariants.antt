@@ -4,8 +4,6 @@ use mathlib.Core.Path.{◌≡◌}
 use Prim.Native.Nat.{◌+◌, ◌≤◌}
 use lib.ListN.{length}
 use Rattle.link_sort.specs.Runs.{strung_from, strung_kids}
-use borrow.Author.Rules.{rules}
-use Rattle.link_sort.proofs.Laws.{walks}
 use Rattle.link_sort.proofs.string_kids.Given as goal
 
 abbrev pub invariant-loop-kid : goal.invariant-loop-kid

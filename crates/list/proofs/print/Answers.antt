@@ -2,7 +2,6 @@
 use mathlib.Core.Path.{sym}
 use native.Mathlib.Omega.{arith}
 use lib.Seq.{length-take-le}
-use borrow.Author.Rules.{rules}
 use Rattle.list_text.specs.Fits.{listing_within}
 use Rattle.list.proofs.print.Goals as goal
 

@@ -1,6 +1,5 @@
 -- `node::put_numbers` meets its contract. Five pastes side by side are one. Assumes nothing.
 use Rattle.node.proofs.Laws.{numbers_put}
-use borrow.Author.Rules.{rules}
 use Rattle.node.proofs.put_numbers.Goals as goal
 
 pub returns : goal.returns

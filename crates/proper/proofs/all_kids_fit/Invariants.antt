@@ -2,8 +2,6 @@
 use Prim.Native.Nat.{◌-◌}
 use mathlib.Core.Path.{◌≡◌}
 use Rattle.proper.specs.Proper.{all_in, kids_fit, all_kids_fit}
-use borrow.Author.Rules.{rules}
-use Rattle.proper.proofs.Fits.{fits}
 use Rattle.proper.proofs.all_kids_fit.Given as goal
 
 abbrev pub invariant-loop-i : goal.invariant-loop-i

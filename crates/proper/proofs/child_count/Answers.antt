@@ -1,5 +1,3 @@
-use Prim.Native.Nat.{◌-◌}
-use Rattle.proper.proofs.Fits.{Counting}
 use borrow.Author.Rules.{rules}
 use Rattle.proper.proofs.Fits.{fits}
 use Rattle.proper.proofs.child_count.Goals as goal

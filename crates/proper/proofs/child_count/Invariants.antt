@@ -1,7 +1,5 @@
 use Prim.Native.Nat.{◌-◌}
 use Rattle.proper.proofs.Fits.{Counting}
-use borrow.Author.Rules.{rules}
-use Rattle.proper.proofs.Fits.{fits}
 use Rattle.proper.proofs.child_count.Given as goal
 
 abbrev pub invariant-loop-j : goal.invariant-loop-j

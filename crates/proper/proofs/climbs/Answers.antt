@@ -1,5 +1,3 @@
-use mathlib.Core.Path.{◌≡◌}
-use Rattle.proper.specs.Proper.{climbs}
 use borrow.Author.Rules.{rules}
 use Rattle.proper.proofs.Fits.{fits}
 use Rattle.proper.proofs.climbs.Goals as goal

@@ -1,7 +1,5 @@
 use mathlib.Core.Path.{◌≡◌}
 use Rattle.proper.specs.Proper.{climbs}
-use borrow.Author.Rules.{rules}
-use Rattle.proper.proofs.Fits.{fits}
 use Rattle.proper.proofs.climbs.Given as goal
 
 abbrev pub invariant-loop-left : goal.invariant-loop-left

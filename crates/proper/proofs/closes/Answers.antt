@@ -1,4 +1,3 @@
-use Rattle.proper.proofs.Walked.{Closing}
 use borrow.Author.Rules.{rules}
 use Rattle.proper.proofs.Walked.{closing-laws}
 use Rattle.proper.proofs.closes.Goals as goal

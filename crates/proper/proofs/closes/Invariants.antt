@@ -1,7 +1,5 @@
 -- `proper::closes` meets its contract. The invariant: the nodes below the present one are done, and no child of it stands behind the node that the climb came from. Assumes nothing.
 use Rattle.proper.proofs.Walked.{Closing}
-use borrow.Author.Rules.{rules}
-use Rattle.proper.proofs.Walked.{closing-laws}
 use Rattle.proper.proofs.closes.Given as goal
 
 abbrev pub invariant-loop-x : goal.invariant-loop-x

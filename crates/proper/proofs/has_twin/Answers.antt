@@ -1,4 +1,3 @@
-use Rattle.proper.proofs.Walked.{Twinless}
 use borrow.Author.Rules.{rules}
 use Rattle.proper.proofs.Walked.{pair-laws}
 use Rattle.proper.proofs.has_twin.Goals as goal

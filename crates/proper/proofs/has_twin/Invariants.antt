@@ -1,7 +1,5 @@
 -- `proper::has_twin` meets its contract. The invariant: no child behind the present one has the name. Assumes nothing.
 use Rattle.proper.proofs.Walked.{Twinless}
-use borrow.Author.Rules.{rules}
-use Rattle.proper.proofs.Walked.{pair-laws}
 use Rattle.proper.proofs.has_twin.Given as goal
 
 abbrev pub invariant-loop-b : goal.invariant-loop-b

@@ -1,4 +1,3 @@
-use Rattle.proper.proofs.Walked.{Differing}
 use borrow.Author.Rules.{rules}
 use Rattle.proper.proofs.Walked.{pair-laws}
 use Rattle.proper.proofs.kids_differ.Goals as goal

@@ -1,7 +1,5 @@
 -- `proper::kids_differ` meets its contract. The invariant: no child behind the present one has the name of an earlier one. Assumes nothing.
 use Rattle.proper.proofs.Walked.{Differing}
-use borrow.Author.Rules.{rules}
-use Rattle.proper.proofs.Walked.{pair-laws}
 use Rattle.proper.proofs.kids_differ.Given as goal
 
 abbrev pub invariant-loop-c : goal.invariant-loop-c

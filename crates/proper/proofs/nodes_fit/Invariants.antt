@@ -3,8 +3,6 @@ use Prim.Native.Nat.{◌-◌}
 use mathlib.Core.Path.{◌≡◌}
 use Rattle.format.specs.Format.{depth_limit}
 use Rattle.proper.specs.Proper.{all_in, node_fits, nodes_fit}
-use borrow.Author.Rules.{rules}
-use Rattle.proper.proofs.Fits.{fits}
 use Rattle.proper.proofs.nodes_fit.Given as goal
 
 abbrev pub invariant-loop-i : goal.invariant-loop-i

@@ -1,5 +1,3 @@
-use Prim.Native.Nat.{◌-◌}
-use Rattle.proper.proofs.Walked.{Walking}
 use borrow.Author.Rules.{rules}
 use Rattle.proper.proofs.Walked.{walking-laws}
 use Rattle.proper.proofs.walked_fit.Goals as goal

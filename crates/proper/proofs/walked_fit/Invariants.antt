@@ -1,8 +1,6 @@
 -- `proper::walked_fit` meets its contract. The invariant: the nodes before the present one fit, save those that the node before it is or stands below. Assumes nothing.
 use Prim.Native.Nat.{◌-◌}
 use Rattle.proper.proofs.Walked.{Walking}
-use borrow.Author.Rules.{rules}
-use Rattle.proper.proofs.Walked.{walking-laws}
 use Rattle.proper.proofs.walked_fit.Given as goal
 
 abbrev pub invariant-loop-j : goal.invariant-loop-j

@@ -1,4 +1,3 @@
-use Rattle.proper.proofs.Walked.{Listing}
 use borrow.Author.Rules.{rules}
 use Rattle.proper.proofs.Walked.{listing-laws}
 use Rattle.proper.proofs.walked_kids.Goals as goal

@@ -1,7 +1,5 @@
 -- `proper::walked_kids` meets its contract. The invariant: the children behind the present one are counted, and those from it on are in order as far as the marks say so. Assumes nothing.
 use Rattle.proper.proofs.Walked.{Listing}
-use borrow.Author.Rules.{rules}
-use Rattle.proper.proofs.Walked.{listing-laws}
 use Rattle.proper.proofs.walked_kids.Given as goal
 
 abbrev pub invariant-loop-c : goal.invariant-loop-c

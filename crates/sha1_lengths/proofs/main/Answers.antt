@@ -1,7 +1,6 @@
 use borrow.Author.Rules.{rules}
 use mathlib.Core.Path.{◌≡◌, sym}
 use native.Mathlib.Omega.{arith}
-use Prim.Native.Nat.{◌-◌, ◌≤◌}
 use lib.ListN.{length}
 use lib.Seq.{length-take-le}
 use Rattle.sha1_lengths.proofs.main.Goals as goal

@@ -1,10 +1,5 @@
 -- `sha1_lengths::main` is safe and ends: each message is a part of the longest. Assumes nothing.
-use borrow.Author.Rules.{rules}
-use mathlib.Core.Path.{◌≡◌, sym}
-use native.Mathlib.Omega.{arith}
 use Prim.Native.Nat.{◌-◌, ◌≤◌}
-use lib.ListN.{length}
-use lib.Seq.{length-take-le}
 use Rattle.sha1_lengths.proofs.main.Given as goal
 
 abbrev pub invariant-loop-n : goal.invariant-loop-n

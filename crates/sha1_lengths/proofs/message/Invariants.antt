@@ -1,5 +1,4 @@
 -- `sha1_lengths::message` is safe and ends: each index is below the length. Assumes nothing.
-use borrow.Author.Rules.{rules}
 use mathlib.Core.Path.{◌≡◌}
 use Prim.Native.Nat.{◌-◌, ◌≤◌}
 use lib.ListN.{length}

@@ -1,7 +1,7 @@
 use borrow.Author.Rules.{rules}
 use native.Mathlib.Omega.{arith}
 use mathlib.Core.Path.{◌≡◌, sym, ap, ◌∙◌}
-use Prim.Native.Nat.{ℕ, ◌+◌, ◌-◌, ◌≤◌, ◌<◌}
+use Prim.Native.Nat.{ℕ, ◌+◌, ◌-◌}
 use mathlib.Core.List.{List, ◌++◌}
 use lib.ListN.{take, replicate, replicate-append-replicate}
 use lib.Seq.{length-take-le}

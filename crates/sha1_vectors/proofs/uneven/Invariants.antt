@@ -1,15 +1,8 @@
 -- `sha1_vectors::uneven` meets its contract. The loop's invariant: the digest stands for as many bytes 'a' as are no longer left. Assumes nothing.
-use borrow.Author.Rules.{rules}
-use native.Mathlib.Omega.{arith}
-use mathlib.Core.Path.{◌≡◌, sym, ap, ◌∙◌}
-use Prim.Native.Nat.{ℕ, ◌+◌, ◌-◌, ◌≤◌, ◌<◌}
-use mathlib.Core.List.{List, ◌++◌}
-use lib.ListN.{take, replicate, replicate-append-replicate}
-use lib.Seq.{length-take-le}
-use Rattle.laws.specs.Lists.{take-replicate}
-use Rattle.sha1_hash.specs.Pieces.{digest_after, fed, finished}
-use Rattle.sha1_hash.specs.Theorems.{fed_after, finished_after}
-use Rattle.sha1_hash.specs.declared.Digest.{Digest}
+use mathlib.Core.Path.{◌≡◌}
+use Prim.Native.Nat.{◌-◌, ◌≤◌, ◌<◌}
+use lib.ListN.{replicate}
+use Rattle.sha1_hash.specs.Pieces.{digest_after}
 use Rattle.sha1_vectors.proofs.uneven.Given as goal
 
 abbrev pub invariant-loop-left : goal.invariant-loop-left

@@ -1,5 +1,4 @@
 -- `show::digit` meets its contract: each branch is a case of the definition. Assumes nothing.
-use borrow.Author.Rules.{rules}
 use native.Mathlib.Omega.{arith}
 use borrow.Author.Tests.{lt-ltb, le-ltb}
 use Rattle.show.specs.Hex.{digit}

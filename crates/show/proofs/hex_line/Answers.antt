@@ -1,8 +1,5 @@
 use borrow.Author.Rules.{rules}
-use mathlib.Core.Path.{◌≡◌, refl}
-use mathlib.Core.List.{◌++◌}
-use Prim.Native.Nat.{◌-◌, ◌*◌, ◌≤◌}
-use lib.ListN.{length, take, drop, replicate}
+use mathlib.Core.Path.{refl}
 use Rattle.show.specs.Hex.{hex}
 use Rattle.show.proofs.Laws.{hex_more, hex_end}
 use Rattle.show.proofs.hex_line.Goals as goal

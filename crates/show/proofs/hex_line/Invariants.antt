@@ -1,11 +1,9 @@
 -- `show::hex_line` meets its contract. The loop's invariant: the digits of the first i bytes, and then the line as it was. Assumes nothing.
-use borrow.Author.Rules.{rules}
-use mathlib.Core.Path.{◌≡◌, refl}
+use mathlib.Core.Path.{◌≡◌}
 use mathlib.Core.List.{◌++◌}
 use Prim.Native.Nat.{◌-◌, ◌*◌, ◌≤◌}
 use lib.ListN.{length, take, drop, replicate}
 use Rattle.show.specs.Hex.{hex}
-use Rattle.show.proofs.Laws.{hex_more, hex_end}
 use Rattle.show.proofs.hex_line.Given as goal
 
 abbrev pub invariant-loop-i : goal.invariant-loop-i

@@ -1,7 +1,3 @@
-use mathlib.Core.Path.{◌≡◌}
-use Prim.Native.Nat.{◌≤◌, ◌-◌}
-use lib.ListN.{length, drop}
-use Rattle.siblings.specs.Rising.{before}
 use borrow.Author.Rules.{rules}
 use Rattle.siblings.proofs.Laws.{compares}
 use Rattle.siblings.proofs.comes_before.Goals as goal

@@ -1,6 +1,3 @@
-use mathlib.Core.Path.{◌≡◌}
-use Prim.Native.Nat.{◌-◌}
-use Rattle.siblings.specs.Siblings.{any_in, twin, repeats}
 use borrow.Author.Rules.{rules}
 use Rattle.siblings.proofs.Laws.{searches}
 use Rattle.siblings.proofs.is_repeated.Goals as goal

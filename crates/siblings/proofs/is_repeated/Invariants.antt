@@ -2,8 +2,6 @@
 use mathlib.Core.Path.{◌≡◌}
 use Prim.Native.Nat.{◌-◌}
 use Rattle.siblings.specs.Siblings.{any_in, twin, repeats}
-use borrow.Author.Rules.{rules}
-use Rattle.siblings.proofs.Laws.{searches}
 use Rattle.siblings.proofs.is_repeated.Given as goal
 
 abbrev pub invariant-loop-j : goal.invariant-loop-j

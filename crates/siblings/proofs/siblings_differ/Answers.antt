@@ -1,8 +1,3 @@
-use mathlib.Core.Path.{◌≡◌}
-use mathlib.Core.Bool.{true, false}
-use Prim.Native.Nat.{◌-◌}
-use Rattle.laws.specs.Pick.{pick}
-use Rattle.siblings.specs.Siblings.{any_in, repeats, siblings_differ}
 use borrow.Author.Rules.{rules}
 use Rattle.siblings.proofs.Laws.{searches}
 use Rattle.siblings.proofs.siblings_differ.Goals as goal

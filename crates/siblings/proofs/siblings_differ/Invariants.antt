@@ -4,8 +4,6 @@ use mathlib.Core.Bool.{true, false}
 use Prim.Native.Nat.{◌-◌}
 use Rattle.laws.specs.Pick.{pick}
 use Rattle.siblings.specs.Siblings.{any_in, repeats, siblings_differ}
-use borrow.Author.Rules.{rules}
-use Rattle.siblings.proofs.Laws.{searches}
 use Rattle.siblings.proofs.siblings_differ.Given as goal
 
 abbrev pub invariant-loop-i : goal.invariant-loop-i

@@ -1,12 +1,8 @@
 -- `slices::clear` meets its contract. The invariant: the first j bytes are pasted. Assumes nothing.
-use borrow.Author.Rules.{rules}
-use native.Mathlib.Omega.{arith}
-use mathlib.Core.Path.{◌≡◌, refl, ap, ◌∙◌}
-use Prim.Native.Nat.{ℕ, ◌-◌, ◌≤◌}
-use native.Mathlib.Nat.{le_antisymm}
-use lib.ListN.{length, replicate, length-set}
-use lib.Seq.{paste, paste-zero}
-use Rattle.laws.specs.Paste.{paste_more_zero}
+use mathlib.Core.Path.{◌≡◌}
+use Prim.Native.Nat.{◌-◌, ◌≤◌}
+use lib.ListN.{length, replicate}
+use lib.Seq.{paste}
 use Rattle.slices.proofs.clear.Given as goal
 
 abbrev pub invariant-loop-j : goal.invariant-loop-j

@@ -1,9 +1,9 @@
 use borrow.Author.Rules.{rules}
 use native.Mathlib.Omega.{arith}
-use mathlib.Core.Path.{◌≡◌, refl, ap, ◌∙◌}
-use Prim.Native.Nat.{ℕ, ◌-◌, ◌≤◌}
+use mathlib.Core.Path.{refl, ap, ◌∙◌}
+use Prim.Native.Nat.{ℕ}
 use native.Mathlib.Nat.{le_antisymm}
-use lib.ListN.{length, drop, length-set}
+use lib.ListN.{drop, length-set}
 use lib.Seq.{paste, paste-zero}
 use Rattle.laws.specs.Paste.{paste_more_from}
 use Rattle.slices.proofs.copy_bytes.Goals as goal
@@ -14,12 +14,12 @@ loop-j-init c = let a = c.args in
 
 pub loop-j-preserved : goal.loop-j-preserved
 loop-j-preserved c = let a = c.args in (
-      search rules,
-      (
-        paste_more_from c.loop-j.dst a.dst.now a.to a.src.now a.from c.loop-j.j c.loop-j.invariant.1.0 (omega arith) (omega arith),
-        simp length-set c.loop-j.invariant.1.1,
-      ),
-    )
+  search rules,
+  (
+    paste_more_from c.loop-j.dst a.dst.now a.to a.src.now a.from c.loop-j.j c.loop-j.invariant.1.0 (omega arith) (omega arith),
+    simp length-set c.loop-j.invariant.1.1,
+  ),
+)
 
 pub returns : goal.returns
 returns c = let a = c.args in

@@ -1,9 +1,9 @@
 use borrow.Author.Rules.{rules}
 use native.Mathlib.Omega.{arith}
-use mathlib.Core.Path.{◌≡◌, refl, ap, ◌∙◌}
-use Prim.Native.Nat.{ℕ, ◌+◌, ◌-◌, ◌≤◌}
+use mathlib.Core.Path.{refl, ap, ◌∙◌}
+use Prim.Native.Nat.{ℕ, ◌+◌}
 use native.Mathlib.Nat.{le_antisymm}
-use lib.ListN.{length, drop, set, get_or, length-set}
+use lib.ListN.{drop, set, get_or, length-set}
 use lib.Seq.{paste, paste-zero}
 use Rattle.laws.specs.Paste.{paste_more_from, get_or-before}
 use mathlib.Core.List.{List}

@@ -1,9 +1,6 @@
-use lib.ListN.{drop}
-use Prim.Native.Nat.{◌-◌}
-use mathlib.Core.Path.{◌≡◌}
 use borrow.Author.Rules.{rules}
 use Rattle.slices.specs.Laws.{laws}
-use Rattle.slices.specs.Bytes.{nul_in, nul_at}
+use Rattle.slices.specs.Bytes.{nul_at}
 use Rattle.slices.proofs.first_nul.Goals as goal
 
 pub loop-i-init : goal.loop-i-init

@@ -2,8 +2,6 @@
 use lib.ListN.{drop}
 use Prim.Native.Nat.{◌-◌}
 use mathlib.Core.Path.{◌≡◌}
-use borrow.Author.Rules.{rules}
-use Rattle.slices.specs.Laws.{laws}
 use Rattle.slices.specs.Bytes.{nul_in, nul_at}
 use Rattle.slices.proofs.first_nul.Given as goal
 

@@ -2,9 +2,7 @@
 use mathlib.Core.Path.{◌≡◌}
 use Prim.Native.Nat.{◌+◌, ◌-◌, ◌≤◌}
 use lib.ListN.{take, drop}
-use borrow.Author.Rules.{rules}
 use Rattle.slices.specs.Bytes.{same_bytes}
-use Rattle.slices.specs.Laws.{laws}
 use Rattle.slices.proofs.same.Given as goal
 
 abbrev pub invariant-loop-k : goal.invariant-loop-k

@@ -1,6 +1,5 @@
 -- `sums::saturating_add` meets its contract. Each answer by the law of its branch. Assumes nothing.
 use native.Mathlib.Omega.{arith}
-use borrow.Author.Rules.{rules}
 use Rattle.sums.specs.Cap.{add_over, add_fits}
 use Rattle.sums.proofs.saturating_add.Goals as goal
 

@@ -1,13 +1,6 @@
 use mathlib.Core.Path.{refl}
 use borrow.Author.Rules.{rules}
 use Rattle.tree.proofs.Laws.{walks, so_far_next, folder_child, folder_first}
-use mathlib.Core.Path.{◌≡◌}
-use lib.ListN.{length}
-use Prim.Native.Nat.{ℕ, ◌^◌, ◌<◌}
-use Rattle.siblings.specs.InOrder.{SoFar}
-use Rattle.link_sort.specs.Folder.{Folder}
-use Rattle.tree.specs.Tree.{kids, node_at}
-use Rattle.format.specs.Format.{id_size}
 use Rattle.tree.proofs.+one_recursive.Goals as goal
 
 pub returns-then-depth-eq0 : goal.returns-then-depth-eq0
@@ -69,12 +62,12 @@ loop-left-smaller t c = search (walks, rules)
 
 pub loop-left-preserved : goal.loop-left-preserved
 loop-left-preserved t c = let inv = c.loop-left.invariant in (
-      search (walks, rules),
-      search (walks, rules),
-      so_far_next _ _ _ _ _ _ _ _ _ _ _ _ _ inv.2 c.in-Read.ensures refl c.rises-more.ensures inv.1,
-      folder_child _ _ _ _ _ _ _ _ _ _ _ _ _ inv.3 c.in-Read.ensures refl c.rises-more.ensures inv.1,
-      search (walks, rules),
-    )
+  search (walks, rules),
+  search (walks, rules),
+  so_far_next _ _ _ _ _ _ _ _ _ _ _ _ _ inv.2 c.in-Read.ensures refl c.rises-more.ensures inv.1,
+  folder_child _ _ _ _ _ _ _ _ _ _ _ _ _ inv.3 c.in-Read.ensures refl c.rises-more.ensures inv.1,
+  search (walks, rules),
+)
 
 pub settle-requires : goal.settle-requires
 settle-requires t c = search (walks, rules)

@@ -1,9 +1,7 @@
 -- `tree::one_recursive` meets its contract. The remaining depth falls. The invariant: the children so far are in the order that is noted and below their parent in walk order, and what is left of the subtrees gives the whole answer. Assumes nothing.
-use borrow.Author.Rules.{rules}
-use Rattle.tree.proofs.Laws.{walks, so_far_next, folder_child, folder_first}
 use mathlib.Core.Path.{◌≡◌}
 use lib.ListN.{length}
-use Prim.Native.Nat.{ℕ, ◌^◌, ◌<◌}
+use Prim.Native.Nat.{◌^◌, ◌<◌}
 use Rattle.siblings.specs.InOrder.{SoFar}
 use Rattle.link_sort.specs.Folder.{Folder}
 use Rattle.tree.specs.Tree.{kids, node_at}

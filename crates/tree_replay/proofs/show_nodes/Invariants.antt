@@ -1,6 +1,5 @@
 -- `tree_replay::show_nodes` is safe and ends. Assumes nothing.
 use Prim.Native.Nat.{◌≤◌, ◌-◌}
-use borrow.Author.Rules.{rules}
 use Rattle.tree_replay.proofs.show_nodes.Given as goal
 
 abbrev pub invariant-loop-i : goal.invariant-loop-i

@@ -1,7 +1,4 @@
-use mathlib.Core.Path.{◌≡◌}
-use Rattle.walk_order.specs.Walk.{climbs_to}
 use borrow.Author.Rules.{rules}
-use Rattle.format.specs.Format.{depth_limit}
 use Rattle.walk_order.proofs.Laws.{laws}
 use Rattle.walk_order.proofs.climbs_to.Goals as goal
 

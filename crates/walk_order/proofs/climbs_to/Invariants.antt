@@ -1,9 +1,7 @@
 -- `walk_order::climbs_to` meets its contract. The invariant: the climb from the present node answers what the whole answers. Assumes nothing.
 use mathlib.Core.Path.{◌≡◌}
 use Rattle.walk_order.specs.Walk.{climbs_to}
-use borrow.Author.Rules.{rules}
 use Rattle.format.specs.Format.{depth_limit}
-use Rattle.walk_order.proofs.Laws.{laws}
 use Rattle.walk_order.proofs.climbs_to.Given as goal
 
 abbrev pub invariant-loop-left : goal.invariant-loop-left

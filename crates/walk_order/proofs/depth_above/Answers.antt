@@ -1,4 +1,3 @@
-use Rattle.walk_order.proofs.Depth.{Climbing}
 use borrow.Author.Rules.{rules}
 use Rattle.walk_order.proofs.Depth.{depth-laws}
 use Rattle.walk_order.proofs.depth_above.Goals as goal

@@ -1,7 +1,5 @@
 -- `walk_order::depth_above` meets its contract. The invariant: the present node stands so deep, and the climb from it answers what the whole answers. Assumes nothing.
 use Rattle.walk_order.proofs.Depth.{Climbing}
-use borrow.Author.Rules.{rules}
-use Rattle.walk_order.proofs.Depth.{depth-laws}
 use Rattle.walk_order.proofs.depth_above.Given as goal
 
 abbrev pub invariant-loop-node : goal.invariant-loop-node

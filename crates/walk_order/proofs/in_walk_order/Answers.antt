@@ -1,8 +1,4 @@
-use mathlib.Core.Path.{◌≡◌}
-use Prim.Native.Nat.{◌-◌, ◌≤◌}
-use Rattle.walk_order.specs.Walk.{walks_from, walks}
 use borrow.Author.Rules.{rules}
-use Rattle.format.specs.Format.{depth_limit}
 use Rattle.walk_order.proofs.Laws.{laws}
 use Rattle.walk_order.proofs.in_walk_order.Goals as goal
 

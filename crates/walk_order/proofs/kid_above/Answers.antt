@@ -1,5 +1,3 @@
-use mathlib.Core.Path.{◌≡◌}
-use Rattle.walk_order.specs.Walk.{kid_from, kid_above}
 use borrow.Author.Rules.{rules}
 use Rattle.walk_order.proofs.Laws.{laws}
 use Rattle.walk_order.proofs.kid_above.Goals as goal

@@ -1,8 +1,6 @@
 -- `walk_order::kid_above` meets its contract. The invariant: the climb from the present node finds what the whole finds. Assumes nothing.
 use mathlib.Core.Path.{◌≡◌}
 use Rattle.walk_order.specs.Walk.{kid_from, kid_above}
-use borrow.Author.Rules.{rules}
-use Rattle.walk_order.proofs.Laws.{laws}
 use Rattle.walk_order.proofs.kid_above.Given as goal
 
 abbrev pub invariant-loop-node : goal.invariant-loop-node

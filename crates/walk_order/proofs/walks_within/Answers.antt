@@ -1,5 +1,3 @@
-use Prim.Native.Nat.{◌-◌}
-use Rattle.walk_order.proofs.Depth.{Deepening}
 use borrow.Author.Rules.{rules}
 use Rattle.walk_order.proofs.Depth.{depth-laws}
 use Rattle.walk_order.proofs.walks_within.Goals as goal

@@ -1,8 +1,6 @@
 -- `walk_order::walks_within` meets its contract. The invariant: the node before stands so deep, and the test of the nodes that are left answers what the whole answers. Assumes nothing.
 use Prim.Native.Nat.{◌-◌}
 use Rattle.walk_order.proofs.Depth.{Deepening}
-use borrow.Author.Rules.{rules}
-use Rattle.walk_order.proofs.Depth.{depth-laws}
 use Rattle.walk_order.proofs.walks_within.Given as goal
 
 abbrev pub invariant-loop-j : goal.invariant-loop-j

@@ -2,7 +2,6 @@ use native.Mathlib.Omega.{arith}
 use borrow.Author.Rules.{rules}
 use Rattle.wire.specs.Written.{size_more}
 use Rattle.wire.proofs.Laws.{written}
-use Prim.Native.Nat.{ℕ, ◌<◌}
 use Rattle.wire.proofs.+put_decimal.Goals as goal
 
 pub digit_of-requires : goal.digit_of-requires

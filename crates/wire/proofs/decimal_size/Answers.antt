@@ -1,9 +1,5 @@
-use mathlib.Core.Path.{◌≡◌}
 use native.Mathlib.Omega.{arith}
-use Prim.Native.Nat.{◌+◌, ◌≤◌}
-use lib.ListN.{length}
-use borrow.Author.Rules.{rules}
-use Rattle.wire.specs.Written.{digits_of, size_one, size_more}
+use Rattle.wire.specs.Written.{size_one, size_more}
 use Rattle.wire.proofs.decimal_size.Goals as goal
 
 pub loop-left-preserved : goal.loop-left-preserved

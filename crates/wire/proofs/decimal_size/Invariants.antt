@@ -1,10 +1,8 @@
 -- `wire::decimal_size` meets its contract. The invariant: what is counted and what is left have the digits of the whole. Assumes nothing.
 use mathlib.Core.Path.{◌≡◌}
-use native.Mathlib.Omega.{arith}
 use Prim.Native.Nat.{◌+◌, ◌≤◌}
 use lib.ListN.{length}
-use borrow.Author.Rules.{rules}
-use Rattle.wire.specs.Written.{digits_of, size_one, size_more}
+use Rattle.wire.specs.Written.{digits_of}
 use Rattle.wire.proofs.decimal_size.Given as goal
 
 abbrev pub invariant-loop-left : goal.invariant-loop-left

@@ -1,7 +1,3 @@
-use lib.ListN.{drop}
-use Prim.Native.Nat.{◌-◌, ◌/◌}
-use mathlib.Core.Path.{◌≡◌}
-use Rattle.wire.specs.Digits.{digits_in}
 use borrow.Author.Rules.{rules}
 use Rattle.wire.proofs.Laws.{digits}
 use Rattle.wire.proofs.run_of_digits.Goals as goal

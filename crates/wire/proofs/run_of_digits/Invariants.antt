@@ -3,8 +3,6 @@ use lib.ListN.{drop}
 use Prim.Native.Nat.{◌-◌, ◌/◌}
 use mathlib.Core.Path.{◌≡◌}
 use Rattle.wire.specs.Digits.{digits_in}
-use borrow.Author.Rules.{rules}
-use Rattle.wire.proofs.Laws.{digits}
 use Rattle.wire.proofs.run_of_digits.Given as goal
 
 abbrev pub invariant-loop-i : goal.invariant-loop-i

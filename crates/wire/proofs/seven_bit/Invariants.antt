@@ -2,9 +2,7 @@
 use lib.ListN.{drop}
 use Prim.Native.Nat.{◌<◌, ◌-◌, ◌^◌}
 use mathlib.Core.Path.{◌≡◌}
-use borrow.Author.Rules.{rules}
 use Rattle.wire.specs.Groups.{groups_in, number_at}
-use Rattle.wire.proofs.Laws.{groups}
 use Rattle.wire.proofs.seven_bit.Given as goal
 
 abbrev pub invariant-loop-i : goal.invariant-loop-i

@@ -1,7 +1,5 @@
-use Prim.Native.Nat.{◌-◌}
 use borrow.Author.Rules.{rules}
-use Rattle.entry.specs.Paths.{lying_in}
-use Rattle.write_entries.proofs.Laws.{laws, Filling}
+use Rattle.write_entries.proofs.Laws.{laws}
 use Rattle.write_entries.proofs.put_entries.Goals as goal
 
 pub records_in-n-requires : goal.records_in-n-requires

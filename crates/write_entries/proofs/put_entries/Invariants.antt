@@ -1,7 +1,6 @@
 use Prim.Native.Nat.{◌-◌}
-use borrow.Author.Rules.{rules}
 use Rattle.entry.specs.Paths.{lying_in}
-use Rattle.write_entries.proofs.Laws.{laws, Filling}
+use Rattle.write_entries.proofs.Laws.{Filling}
 use Rattle.write_entries.proofs.put_entries.Given as goal
 
 abbrev pub invariant-loop-i : goal.invariant-loop-i

@@ -1,8 +1,6 @@
 use native.Mathlib.Omega.{arith}
-use Prim.Native.Nat.{◌-◌}
 use borrow.Author.Rules.{rules}
-use Rattle.write_entries.proofs.Laws.{kept_small, laws, Sizing}
-use Rattle.entry.specs.Paths.{lying_in}
+use Rattle.write_entries.proofs.Laws.{kept_small, laws}
 use Rattle.write_entries.proofs.size_entries.Goals as goal
 
 pub records_in-n-requires : goal.records_in-n-requires

@@ -1,7 +1,5 @@
-use native.Mathlib.Omega.{arith}
 use Prim.Native.Nat.{◌-◌}
-use borrow.Author.Rules.{rules}
-use Rattle.write_entries.proofs.Laws.{kept_small, laws, Sizing}
+use Rattle.write_entries.proofs.Laws.{Sizing}
 use Rattle.entry.specs.Paths.{lying_in}
 use Rattle.write_entries.proofs.size_entries.Given as goal
 

@@ -2,7 +2,6 @@
 use mathlib.Core.Path.{sym}
 use native.Mathlib.Omega.{arith}
 use lib.Seq.{length-take-le}
-use borrow.Author.Rules.{rules}
 use Rattle.write_trees.proofs.read_back_start.Goals as goal
 
 pub slice_bounds-read_back-end : goal.slice_bounds-read_back-end

@@ -1,7 +1,6 @@
 -- `write_trees::show_hex` is safe and ends. Assumes nothing.
 use Prim.Native.Nat.{◌-◌, ◌≤◌}
 use lib.ListN.{length}
-use borrow.Author.Rules.{rules}
 use Rattle.write_trees.proofs.show_hex.Given as goal
 
 abbrev pub invariant-loop-i : goal.invariant-loop-i

@@ -1,8 +1,4 @@
 use Rattle.access.proofs.Laws.{laws}
-use mathlib.Core.Path.{◌≡◌}
-use Prim.Native.Nat.{◌+◌, ◌-◌}
-use lib.ListN.{length, drop}
-use Rattle.access.specs.Order.{agreeing}
 use borrow.Author.Rules.{rules}
 use Rattle.access.proofs.order.agree_from.Goals as goal
 

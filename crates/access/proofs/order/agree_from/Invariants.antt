@@ -1,10 +1,8 @@
 -- `access::order::agree_from` meets its contract. Assumes nothing.
-use Rattle.access.proofs.Laws.{laws}
 use mathlib.Core.Path.{◌≡◌}
 use Prim.Native.Nat.{◌+◌, ◌-◌}
 use lib.ListN.{length, drop}
 use Rattle.access.specs.Order.{agreeing}
-use borrow.Author.Rules.{rules}
 use Rattle.access.proofs.order.agree_from.Given as goal
 
 abbrev pub invariant-loop-k : goal.invariant-loop-k

@@ -1,8 +1,5 @@
 use Rattle.access.proofs.Laws.{laws, eights_next}
-use Rattle.access.specs.Order.{Passed}
-use Prim.Native.Nat.{◌-◌, ◌*◌, ◌≤◌}
 use native.Mathlib.Omega.{arith}
-use lib.ListN.{length}
 use borrow.Author.Rules.{rules}
 use Rattle.access.proofs.order.pass_eights.Goals as goal
 

@@ -1,10 +1,7 @@
 -- `access::order::pass_eights` meets its contract. Eight bytes spell equal numbers only if they are equal. Assumes nothing.
-use Rattle.access.proofs.Laws.{laws, eights_next}
 use Rattle.access.specs.Order.{Passed}
 use Prim.Native.Nat.{◌-◌, ◌*◌, ◌≤◌}
-use native.Mathlib.Omega.{arith}
 use lib.ListN.{length}
-use borrow.Author.Rules.{rules}
 use Rattle.access.proofs.order.pass_eights.Given as goal
 
 abbrev pub invariant-loop-j : goal.invariant-loop-j

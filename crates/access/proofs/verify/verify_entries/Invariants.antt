@@ -1,11 +1,9 @@
 -- `access::verify::verify_entries` meets its contract. Assumes nothing.
-use Rattle.access.proofs.Laws.{laws}
 use mathlib.Core.Path.{◌≡◌}
 use Prim.Native.Nat.{◌-◌}
 use Rattle.entry.specs.Paths.{lying_in}
 use Rattle.entry.specs.Record.{records_in}
 use Rattle.access.specs.Verify.{verify_from, verify_at}
-use borrow.Author.Rules.{rules}
 use Rattle.access.proofs.verify.verify_entries.Given as goal
 
 abbrev pub invariant-loop-i : goal.invariant-loop-i

@@ -1,11 +1,8 @@
 use mathlib.Core.Path.{refl}
-use mathlib.Core.Bool.{false}
 use native.Mathlib.Omega.{arith}
 use mathlib.Core.Path.{refl}
 use borrow.Author.Rules.{rules}
-use Rattle.format.specs.Format.{id_size}
-use Rattle.decode.proofs.Laws.{State, run_size, laws}
-use Rattle.decode.specs.Entries.{run}
+use Rattle.decode.proofs.Laws.{run_size, laws}
 use Rattle.decode.proofs.entries.run_entries.Goals as goal
 
 pub loop-left-init : goal.loop-left-init

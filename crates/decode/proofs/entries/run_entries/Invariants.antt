@@ -1,10 +1,7 @@
 -- `decode::entries::run_entries` meets its contract. The invariant, `State`: what is left to read, from here, comes to what the whole does. Assumes nothing.
-use mathlib.Core.Path.{refl}
 use mathlib.Core.Bool.{false}
-use native.Mathlib.Omega.{arith}
-use borrow.Author.Rules.{rules}
 use Rattle.format.specs.Format.{id_size}
-use Rattle.decode.proofs.Laws.{State, run_size, laws}
+use Rattle.decode.proofs.Laws.{State}
 use Rattle.decode.specs.Entries.{run}
 use Rattle.decode.proofs.entries.run_entries.Given as goal
 

@@ -1,6 +1,5 @@
 -- `entry::stat::time_at` meets its contract. Assumes nothing.
 use Rattle.entry.proofs.Laws.{time_is}
-use borrow.Author.Rules.{rules}
 use Rattle.entry.proofs.stat.time_at.Goals as goal
 
 pub returns : goal.returns

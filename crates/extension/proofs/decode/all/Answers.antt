@@ -1,7 +1,4 @@
-use Prim.Native.Nat.{◌-◌}
-use mathlib.Core.Path.{◌≡◌}
-use Rattle.extension.specs.Iter.{run_at}
-use Rattle.extension.specs.Decode.{all_from, all_at}
+use Rattle.extension.specs.Decode.{all_at}
 use borrow.Author.Rules.{rules}
 use Rattle.extension.proofs.Laws.{walks}
 use Rattle.extension.proofs.decode.all.Goals as goal

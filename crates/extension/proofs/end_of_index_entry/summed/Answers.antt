@@ -1,10 +1,5 @@
-use Prim.Native.Nat.{◌-◌}
-use mathlib.Core.Path.{◌≡◌}
-use Rattle.extension.specs.Iter.{run_at}
-use Rattle.extension.specs.EndOfIndexEntry.{prior_at}
 use borrow.Author.Rules.{rules}
-use Rattle.kind.specs.Sha1.{sha1_kind}
-use Rattle.extension.proofs.Laws.{priors, left_over}
+use Rattle.extension.proofs.Laws.{priors}
 use Rattle.extension.proofs.end_of_index_entry.summed.Goals as goal
 
 pub new-digest-requires : goal.new-digest-requires

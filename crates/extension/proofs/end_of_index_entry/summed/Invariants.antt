@@ -3,9 +3,8 @@ use Prim.Native.Nat.{◌-◌}
 use mathlib.Core.Path.{◌≡◌}
 use Rattle.extension.specs.Iter.{run_at}
 use Rattle.extension.specs.EndOfIndexEntry.{prior_at}
-use borrow.Author.Rules.{rules}
 use Rattle.kind.specs.Sha1.{sha1_kind}
-use Rattle.extension.proofs.Laws.{priors, left_over}
+use Rattle.extension.proofs.Laws.{left_over}
 use Rattle.extension.proofs.end_of_index_entry.summed.Given as goal
 
 abbrev pub invariant-loop-sum : goal.invariant-loop-sum

@@ -2,8 +2,6 @@
 use Prim.Native.Nat.{◌-◌}
 use mathlib.Core.Path.{◌≡◌}
 use Rattle.extension.specs.Iter.{first_at}
-use borrow.Author.Rules.{rules}
-use Rattle.extension.proofs.Laws.{firsts}
 use Rattle.extension.proofs.iter.first_of.Given as goal
 
 abbrev pub invariant-loop-signature : goal.invariant-loop-signature
