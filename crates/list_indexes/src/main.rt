@@ -2,7 +2,13 @@
 
 #![tactic(auto)]
 
-use libc::STDOUT_FILENO;
+use std::env;
+use std::fs::File;
+use std::os::fd::AsRawFd;
+use std::rt::Files;
+
+// The descriptor of standard output.
+const STDOUT_FILENO: i32 = 1;
 
 // Writes a text that was put at the start of out.
 fn write(out: &[u8], size: usize) {
@@ -21,31 +27,18 @@ fn list(fd: i32) {
 }
 
 // Prints the name of a file and its listing.
-fn show(name: &[u8]) {
+fn show(rt: &impl Files<File = File>, name: &str) -> std::io::Result<()> {
     io::write_all(STDOUT_FILENO, b"== ");
-    io::write_all(STDOUT_FILENO, name);
+    io::write_all(STDOUT_FILENO, name.as_bytes());
     io::write_all(STDOUT_FILENO, b"\n");
-    let fd = os::open_read(name);
-    if fd < 0 {
-        os::fail(name);
-        return;
-    }
-    list(fd);
-    libc::close(fd);
+    let file = File::open(rt, name)?;
+    list(file.as_raw_fd());
+    Ok(())
 }
 
-// Shows the file that argument i names.
-fn show_argument(i: usize) {
-    let mut name = io::buffer();
-    let n = os::arg(i, &mut name);
-    show(&name[..n]);
-}
-
-fn main() {
-    let n = os::arg_count();
-    let mut i: usize = 1;
-    while i < n {
-        show_argument(i);
-        i += 1;
+fn main(rt: HostRuntime) -> std::io::Result<()> {
+    for name in env::args(&rt)?.skip(1) {
+        show(&rt, name.as_str())?;
     }
+    Ok(())
 }

@@ -7,7 +7,13 @@
 ghost use Rattle.std.specs.Prelude.{◌≤◌, length};
 
 use file::Answer;
-use libc::STDOUT_FILENO;
+use std::env;
+use std::fs::File;
+use std::os::fd::AsRawFd;
+use std::rt::Files;
+
+// The descriptor of standard output.
+const STDOUT_FILENO: i32 = 1;
 
 // What each byte of a store is before the reader is called.
 const LENT: u8 = 238;
@@ -187,45 +193,48 @@ fn show_file(file: &[u8], r: usize, p: usize, n: usize) {
 }
 
 // Shows a file by its name. Where more than three nodes are lent, all records and paths are too.
-fn show(name: &[u8], r: usize, p: usize, n: usize) {
+fn show(
+    rt: &impl Files<File = File>,
+    name: &str,
+    r: usize,
+    p: usize,
+    n: usize,
+) -> std::io::Result<()> {
     text(b"== ");
-    text(name);
+    text(name.as_bytes());
     text(b"\n");
-    let fd = os::open_read(name);
-    if fd < 0 {
-        os::fail(name);
-        return;
-    }
+    let input = File::open(rt, name)?;
     let mut file = io::buffer();
-    let size = io::read_full(fd, &mut file);
-    libc::close(fd);
+    let size = io::read_full(input.as_raw_fd(), &mut file);
+    drop(input);
     if NODES < n {
         show_deep_file(&file[..size], n);
     } else {
         show_file(&file[..size], r, p, n);
     }
+    Ok(())
 }
 
 // Rooms too small by one, and as small as will do.
-fn show_entry_rooms() {
-    show(b"page-one-line", 95, PATHS, NODES);
-    show(b"page-one-line", RECORDS, 0, NODES);
-    show(b"page-one-line", 96, 1, 0);
-    show(b"r6-second", 191, PATHS, NODES);
-    show(b"r6-second", RECORDS, 2, NODES);
-    show(b"r6-second", 192, 3, 0);
-    show(b"r5-before-r6", 0, 0, 0);
+fn show_entry_rooms(rt: &impl Files<File = File>) -> std::io::Result<()> {
+    show(rt, "page-one-line", 95, PATHS, NODES)?;
+    show(rt, "page-one-line", RECORDS, 0, NODES)?;
+    show(rt, "page-one-line", 96, 1, 0)?;
+    show(rt, "r6-second", 191, PATHS, NODES)?;
+    show(rt, "r6-second", RECORDS, 2, NODES)?;
+    show(rt, "r6-second", 192, 3, 0)?;
+    show(rt, "r5-before-r6", 0, 0, 0)
 }
 
-fn show_node_rooms() {
-    show(b"r10-no-node", RECORDS, PATHS, 71);
-    show(b"r10-no-node", RECORDS, PATHS, 72);
-    show(b"r10-second", RECORDS, PATHS, 72);
-    show(b"r10-second", RECORDS, PATHS, 144);
-    show(b"D8", RECORDS, PATHS, DEEP_NODES);
-    show(b"D8", RECORDS, PATHS, DEEP_NODES - 1);
-    show(b"r9-not-at-512", RECORDS, PATHS, DEEP_NODES);
-    show(b"r9-after-entry", RECORDS, PATHS, DEEP_NODES);
+fn show_node_rooms(rt: &impl Files<File = File>) -> std::io::Result<()> {
+    show(rt, "r10-no-node", RECORDS, PATHS, 71)?;
+    show(rt, "r10-no-node", RECORDS, PATHS, 72)?;
+    show(rt, "r10-second", RECORDS, PATHS, 72)?;
+    show(rt, "r10-second", RECORDS, PATHS, 144)?;
+    show(rt, "D8", RECORDS, PATHS, DEEP_NODES)?;
+    show(rt, "D8", RECORDS, PATHS, DEEP_NODES - 1)?;
+    show(rt, "r9-not-at-512", RECORDS, PATHS, DEEP_NODES)?;
+    show(rt, "r9-after-entry", RECORDS, PATHS, DEEP_NODES)
 }
 
 // Input of 65,536 bytes is read, and longer input is not.
@@ -241,21 +250,12 @@ fn show_too_big() {
     show_text(&out, size_of_more);
 }
 
-// Shows the file that argument i names.
-fn show_argument(i: usize) {
-    let mut name = io::buffer();
-    let n = os::arg(i, &mut name);
-    show(&name[..n], RECORDS, PATHS, NODES);
-}
-
-fn main() {
-    show_entry_rooms();
-    show_node_rooms();
+fn main(rt: HostRuntime) -> std::io::Result<()> {
+    show_entry_rooms(&rt)?;
+    show_node_rooms(&rt)?;
     show_too_big();
-    let n = os::arg_count();
-    let mut i: usize = 1;
-    while i < n {
-        show_argument(i);
-        i += 1;
+    for name in env::args(&rt)?.skip(1) {
+        show(&rt, name.as_str(), RECORDS, PATHS, NODES)?;
     }
+    Ok(())
 }

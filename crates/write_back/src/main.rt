@@ -4,10 +4,18 @@
 #![tactic(auto)]
 
 ghost use Rattle.io.specs.Counts.{IsPrefixLen};
+ghost use Rattle.std.specs.Prelude.{IfOk};
 
 use file::Answer as Got;
-use libc::STDOUT_FILENO;
+use std::env;
+use std::fs::File;
+use std::io::{Error, ErrorKind};
+use std::os::fd::AsRawFd;
+use std::rt::Files;
 use write::{Answer, Options};
+
+// The descriptor of standard output.
+const STDOUT_FILENO: i32 = 1;
 
 // How many records and nodes are lent.
 const SLOTS: usize = 64;
@@ -144,49 +152,31 @@ fn write_back(file: &[u8], rust: &[u8]) {
 }
 
 // Reads the file of that name into s, and answers how many bytes it has.
-fn load(name: &[u8], s: &mut [u8]) -> usize
-    ensures { IsPrefixLen result s.new }
+fn load(rt: &impl Files<File = File>, name: &str, s: &mut [u8]) -> std::io::Result<usize>
+    ensures { IfOk result (λ n. IsPrefixLen n s.new) }
 {
-    let fd = os::open_read(name);
-    if fd < 0 {
-        os::fail(name);
-        return 0;
-    }
-    let n = io::read_full(fd, s);
-    libc::close(fd);
-    n
+    let file = File::open(rt, name)?;
+    Ok(io::read_full(file.as_raw_fd(), s))
 }
 
-// Loads the file that argument i names.
-fn load_argument(i: usize, s: &mut [u8]) -> usize
-    ensures { IsPrefixLen result s.new }
-{
-    let mut name = io::buffer();
-    let n = os::arg(i, &mut name);
-    load(&name[..n], s)
-}
-
-fn show_name(i: usize) {
-    let mut name = io::buffer();
-    let n = os::arg(i, &mut name);
-    text(&name[..n]);
-}
-
-// The file that argument i names, and beside it what the Rust wrote.
-fn show_pair(i: usize, beside: usize) {
+// The file of that name, and beside it what the Rust wrote.
+fn show_pair(rt: &impl Files<File = File>, name: &str, beside: &str) -> std::io::Result<()> {
     let mut file = [0u8; 8192];
     let mut rust = [0u8; 8192];
-    let n = load_argument(i, &mut file);
-    let m = load_argument(beside, &mut rust);
-    show_name(i);
+    let n = load(rt, name, &mut file)?;
+    let m = load(rt, beside, &mut rust)?;
+    text(name.as_bytes());
     write_back(&file[..n], &rust[..m]);
+    Ok(())
 }
 
-fn main() {
-    let pairs = os::arg_count() / 2;
-    let mut i: usize = 0;
-    while i < pairs {
-        show_pair(i * 2 + 1, i * 2 + 2);
-        i += 1;
+fn main(rt: HostRuntime) -> std::io::Result<()> {
+    let names: Vec<String> = env::args(&rt)?.skip(1).collect(rt.alloc())?;
+    for pair in names.as_slice().chunks(2) {
+        match pair {
+            [name, beside] => show_pair(&rt, name.as_str(), beside.as_str())?,
+            _ => return Err(Error::from(ErrorKind::InvalidInput)),
+        }
     }
+    Ok(())
 }
