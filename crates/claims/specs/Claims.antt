@@ -80,7 +80,7 @@ module _ (kind : Kind) where
   pub data NodesAfter (s ns : List ℕ) : Option Tree → List ℕ → Type 0 where
     the_tree : {t : Tree} → NodesAfter s ns (some t) (filled ns (tree_bytes t))
     no_tree_spelled : {place : ℕ} {body : List ℕ} → LastTREE s place body → ¬ SpellsTree kind.id place body → NodesAfter s ns none (zeroed ns)
-    no_TREE-there : NoTREE s → NodesAfter s ns none ns
+    no_TREE_there : NoTREE s → NodesAfter s ns none ns
 
   pub record Renders (s rs ps ns : List ℕ) (m : Index) (o : Outcome) : Type 0 where
     pub answer : o.answer ≡ answer_of m
@@ -215,7 +215,7 @@ module _ (kind : Kind) where
         to : {v : ℕ} {sparse tree : Bool} {r p n : ℕ} {rs₁ ps₁ ns₁ : List ℕ} → SaysFile kind s rs ps ns (outcome (answer.Read v sparse tree r p n) rs₁ ps₁ ns₁)
             → (m : Index) × File kind.id s m × Renders s rs ps ns m (outcome (answer.Read v sparse tree r p n) rs₁ ps₁ ns₁)
         to (says_no_TREE o {b = b} {c = c} {ms = ms} {es = es} a y t f) =
-            rendered o a y t (absent f) (no_TREE-there (record { b = b; c = c; ms = ms; es = es; joins = a.joins; entries = a.spelled; extensions = y; no_last = f }))
+            rendered o a y t (absent f) (no_TREE_there (record { b = b; c = c; ms = ms; es = es; joins = a.joins; entries = a.spelled; extensions = y; no_last = f }))
         to (says_tree o w x h k) = rendered o w.entries w.extensions w.mark (spelled w.last x) the_tree
         to (says_malformed o w f d e) = rendered o w.entries w.extensions w.mark (malformed w.last (λ v x. f (v, x))) (no_tree_spelled (lying w) f)
 

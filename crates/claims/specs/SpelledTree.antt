@@ -39,8 +39,8 @@ module _ (kind : Kind) where
       let l : LastSigned TREE (header_length + length y.b) x.es p body = subst (λ (a : List ℕ). LastSigned TREE (header_length + length a) x.es p body) b x.last in
       last_unique (subst (λ (es : List Ext). LastSigned TREE (header_length + length y.b) es p body) e l) y.last
 
-  pub no_TREE-fits : (s ns : List ℕ) → NoTREE kind s → TreeFits kind s ns
-  no_TREE-fits s ns x place body y =
+  pub no_TREE_fits : (s ns : List ℕ) → NoTREE kind s → TreeFits kind s ns
+  no_TREE_fits s ns x place body y =
       let (b, e) = one_cut s y.joins y.entries y.extensions x.joins x.entries x.extensions in
       absurd (none_not_last x.no_last (subst (λ (l : List Ext). LastSigned TREE (header_length + length y.b) l place body) e y.last))
 

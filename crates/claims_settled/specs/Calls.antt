@@ -18,7 +18,7 @@ use Rattle.file.specs.declared.Answer.{Answer}
 use Rattle.write.specs.File as writing
 use Rattle.write.specs.declared.Options.{Options}
 use Rattle.write.specs.declared.Answer.{Answer as Wrote}
-use Rattle.sha1_hash.proofs as sha1
+use Rattle.sha1_hash.proofs as sha1_hash
 use Rattle.entry.specs.Paths.{Paths, lying_in}
 use Rattle.access.proofs as access
 use Rattle.file.proofs as file
@@ -70,25 +70,25 @@ verify_entries_answers (called c) = c.meets
 -- ---- the digest: a new one, one fed with a piece, what it finishes with, and the SHA-1 of bytes at once
 
 pub data DigestNewCall : Digest → Type 0 where
-  called : (c : Call sha1.Digest.new.Kinds.ps sha1.Digest.new.Kinds.r sha1.Digest.new.Reads.Learnt) → DigestNewCall c.answer
+  called : (c : Call sha1_hash.Digest.new.Kinds.ps sha1_hash.Digest.new.Kinds.r sha1_hash.Digest.new.Reads.Learnt) → DigestNewCall c.answer
 
 pub digest_new_answers : {d : Digest} → DigestNewCall d → d ≡ digest_after []
 digest_new_answers (called c) = c.meets
 
 pub data DigestFeedCall : Digest → (piece : List ℕ) → Digest → Type 0 where
-  called : (c : Call sha1.Digest.feed.Kinds.ps sha1.Digest.feed.Kinds.r sha1.Digest.feed.Reads.Learnt) → DigestFeedCall c.args.0 c.args.1.0.now c.answer
+  called : (c : Call sha1_hash.Digest.feed.Kinds.ps sha1_hash.Digest.feed.Kinds.r sha1_hash.Digest.feed.Reads.Learnt) → DigestFeedCall c.args.0 c.args.1.0.now c.answer
 
 pub digest_feed_answers : {d d' : Digest} {piece : List ℕ} → DigestFeedCall d piece d' → d' ≡ fed d piece
 digest_feed_answers (called c) = c.meets
 
 pub data DigestFinishCall : Digest → (out : List ℕ) → Type 0 where
-  called : (c : Call sha1.Digest.finish.Kinds.ps sha1.Digest.finish.Kinds.r sha1.Digest.finish.Reads.Learnt) → DigestFinishCall c.args.0 c.answer
+  called : (c : Call sha1_hash.Digest.finish.Kinds.ps sha1_hash.Digest.finish.Kinds.r sha1_hash.Digest.finish.Reads.Learnt) → DigestFinishCall c.args.0 c.answer
 
 pub digest_finish_answers : {d : Digest} {out : List ℕ} → DigestFinishCall d out → out ≡ finished d
 digest_finish_answers (called c) = c.meets
 
 pub data Sha1OfCall : (bytes out : List ℕ) → Type 0 where
-  called : (c : Call sha1.sha1_of.Kinds.ps sha1.sha1_of.Kinds.r sha1.sha1_of.Reads.Learnt) → Sha1OfCall c.args.0.now c.answer
+  called : (c : Call sha1_hash.sha1_of.Kinds.ps sha1_hash.sha1_of.Kinds.r sha1_hash.sha1_of.Reads.Learnt) → Sha1OfCall c.args.0.now c.answer
 
 pub sha1_of_answers : {bytes out : List ℕ} → Sha1OfCall bytes out → out ≡ fips.sha1 bytes
 sha1_of_answers (called c) = c.meets

@@ -4,16 +4,16 @@ use Rattle.sums.proofs as sums
 use Rattle.show.proofs as show
 use Rattle.slices.proofs as slices
 use Rattle.wire.proofs as wire
-use Rattle.sha1_hash.proofs as sha1
+use Rattle.sha1_hash.proofs as sha1_hash
 use Rattle.claims_settled.specs.Law.{Settles, both, settled}
 
 -- ---- `sums`
 
-pub saturating_add-settled : Settles sums.saturating_add.Kinds.ps sums.saturating_add.Kinds.r sums.saturating_add.Reads.Learnt
-saturating_add-settled κs a z z' w w' = settled (λ r. (r, w))
+pub saturating_add_settled : Settles sums.saturating_add.Kinds.ps sums.saturating_add.Kinds.r sums.saturating_add.Reads.Learnt
+saturating_add_settled κs a z z' w w' = settled (λ r. (r, w))
 
-pub saturating_sub-settled : Settles sums.saturating_sub.Kinds.ps sums.saturating_sub.Kinds.r sums.saturating_sub.Reads.Learnt
-saturating_sub-settled κs a z z' w w' = settled (λ r. (r, w))
+pub saturating_sub_settled : Settles sums.saturating_sub.Kinds.ps sums.saturating_sub.Kinds.r sums.saturating_sub.Reads.Learnt
+saturating_sub_settled κs a z z' w w' = settled (λ r. (r, w))
 
 -- ---- `show`
 
@@ -77,14 +77,14 @@ put_decimal_settled κs a z z' w w' (p, q) (p', q') = both (λ r o. (r, (o, (tt,
 
 -- ---- `sha1`
 
-pub new_settled : Settles sha1.Digest.new.Kinds.ps sha1.Digest.new.Kinds.r sha1.Digest.new.Reads.Learnt
+pub new_settled : Settles sha1_hash.Digest.new.Kinds.ps sha1_hash.Digest.new.Kinds.r sha1_hash.Digest.new.Reads.Learnt
 new_settled κs a z z' w w' = settled (λ r. (r, w))
 
-pub feed_settled : Settles sha1.Digest.feed.Kinds.ps sha1.Digest.feed.Kinds.r sha1.Digest.feed.Reads.Learnt
+pub feed_settled : Settles sha1_hash.Digest.feed.Kinds.ps sha1_hash.Digest.feed.Kinds.r sha1_hash.Digest.feed.Reads.Learnt
 feed_settled κs a z z' w w' = settled (λ r. (r, w))
 
-pub finish_settled : Settles sha1.Digest.finish.Kinds.ps sha1.Digest.finish.Kinds.r sha1.Digest.finish.Reads.Learnt
+pub finish_settled : Settles sha1_hash.Digest.finish.Kinds.ps sha1_hash.Digest.finish.Kinds.r sha1_hash.Digest.finish.Reads.Learnt
 finish_settled κs a z z' w w' = settled (λ r. (r, w))
 
-pub sha1_of_settled : Settles sha1.sha1_of.Kinds.ps sha1.sha1_of.Kinds.r sha1.sha1_of.Reads.Learnt
+pub sha1_of_settled : Settles sha1_hash.sha1_of.Kinds.ps sha1_hash.sha1_of.Kinds.r sha1_hash.sha1_of.Reads.Learnt
 sha1_of_settled κs a z z' w w' = settled (λ r. (r, w))

@@ -4,7 +4,7 @@ use Rattle.write.specs.File.{Outcome}
 use Rattle.walk_order.proofs as walk_order
 use Rattle.proper.proofs as proper
 use Rattle.tree_write.proofs as tree_write
-use Rattle.write_entries.proofs as entrieswritten
+use Rattle.write_entries.proofs as write_entries
 use Rattle.write.proofs as write
 use Rattle.claims_settled.specs.Law.{Settles, settled}
 
@@ -32,10 +32,10 @@ put_tree_settled κs a z z' w w' = settled (λ o. (tt, (tt, (tt, (o, (tt, tt))))
 
 -- ---- `write_entries`
 
-pub size_entries_settled : Settles entrieswritten.size_entries.Kinds.ps entrieswritten.size_entries.Kinds.r entrieswritten.size_entries.Reads.Learnt
+pub size_entries_settled : Settles write_entries.size_entries.Kinds.ps write_entries.size_entries.Kinds.r write_entries.size_entries.Reads.Learnt
 size_entries_settled κs a z z' w w' = settled (λ r. (r, w))
 
-pub put_entries_settled : Settles entrieswritten.put_entries.Kinds.ps entrieswritten.put_entries.Kinds.r entrieswritten.put_entries.Reads.Learnt
+pub put_entries_settled : Settles write_entries.put_entries.Kinds.ps write_entries.put_entries.Kinds.r write_entries.put_entries.Reads.Learnt
 put_entries_settled κs a z z' w w' = settled (λ (x : ℕ × List ℕ). (x.0, (tt, (tt, (x.1, (tt, tt))))))
 
 -- ---- `write`

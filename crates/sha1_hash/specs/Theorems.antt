@@ -34,32 +34,32 @@ last_long s p =
 
 -- the blocks of a ++ b are those of a, and then those of what is left of a, with b
 module _ (b : List ℕ) where
-  hash_append-at : (n : ℕ) (h a : List ℕ) → length a / 64 ≡ n → hash_all (hash_all h a) (last_part a ++ b) ≡ hash_all h (a ++ b)
-  hash_append-at zero h a e =
+  hash_append_at : (n : ℕ) (h a : List ℕ) → length a / 64 ≡ n → hash_all (hash_all h a) (last_part a ++ b) ≡ hash_all h (a ++ b)
+  hash_append_at zero h a e =
       let p : length a < 64 = omega arith in
       rw (hash_short h a p, last_short a p)
-  hash_append-at (suc n) h a e =
+  hash_append_at (suc n) h a e =
       let p : 64 ≤ length a = omega arith in
       let l : 64 ≤ length (a ++ b) = rw (length-append a b) (omega arith) in
       let i : length (drop 64 a) / 64 ≡ n = rw (length-drop 64 a) (omega arith) in
       rw (hash_long h a p, last_long a p, hash_long h (a ++ b) l, take-append-le 64 a b p, drop-append-le 64 a b p)
-      (hash_append-at n (compress h (take 64 a)) (drop 64 a) i)
+      (hash_append_at n (compress h (take 64 a)) (drop 64 a) i)
 
-  last_append-at : (n : ℕ) (a : List ℕ) → length a / 64 ≡ n → last_part (last_part a ++ b) ≡ last_part (a ++ b)
-  last_append-at zero a e =
+  last_append_at : (n : ℕ) (a : List ℕ) → length a / 64 ≡ n → last_part (last_part a ++ b) ≡ last_part (a ++ b)
+  last_append_at zero a e =
       let p : length a < 64 = omega arith in
       rw (last_short a p)
-  last_append-at (suc n) a e =
+  last_append_at (suc n) a e =
       let p : 64 ≤ length a = omega arith in
       let l : 64 ≤ length (a ++ b) = rw (length-append a b) (omega arith) in
       let i : length (drop 64 a) / 64 ≡ n = rw (length-drop 64 a) (omega arith) in
-      rw (last_long a p, last_long (a ++ b) l, drop-append-le 64 a b p) (last_append-at n (drop 64 a) i)
+      rw (last_long a p, last_long (a ++ b) l, drop-append-le 64 a b p) (last_append_at n (drop 64 a) i)
 
 pub hash_append : (h a b : List ℕ) → hash_all (hash_all h a) (last_part a ++ b) ≡ hash_all h (a ++ b)
-hash_append h a b = hash_append-at b (length a / 64) h a refl
+hash_append h a b = hash_append_at b (length a / 64) h a refl
 
 pub last_append : (a b : List ℕ) → last_part (last_part a ++ b) ≡ last_part (a ++ b)
-last_append a b = last_append-at b (length a / 64) a refl
+last_append a b = last_append_at b (length a / 64) a refl
 
 -- ---- states
 

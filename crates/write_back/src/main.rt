@@ -9,7 +9,6 @@ ghost use Rattle.std.specs.Prelude.{IfOk};
 use file::Answer as Got;
 use std::env;
 use std::fs::File;
-use std::io::{Error, ErrorKind};
 use std::os::fd::AsRawFd;
 use std::rt::Files;
 use write::{Answer, Options};
@@ -175,7 +174,8 @@ fn main(rt: HostRuntime) -> std::io::Result<()> {
     for pair in names.as_slice().chunks(2) {
         match pair {
             [name, beside] => show_pair(&rt, name.as_str(), beside.as_str())?,
-            _ => return Err(Error::from(ErrorKind::InvalidInput)),
+            [name] => show_pair(&rt, name.as_str(), "")?,
+            _ => (),
         }
     }
     Ok(())
