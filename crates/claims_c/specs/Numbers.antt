@@ -101,7 +101,7 @@ module _ {s rs ps ns values rs' ps' ns' : List ℕ} {code : ℕ} (call : ReadCal
   zero_is_read e = is_read given (sym number_told ∙ e)
 
   pub read_is_zero : IsRead given → code ≡ 0
-  read_is_zero (version, sparse, tree, records, paths, nodes, q) = number_told ∙ ap number_of q
+  read_is_zero (version, sparse, _, records, paths, nodes, q) = number_told ∙ ap number_of q
 
   -- any other number is its refusal
   pub refused : (code ≡ 0 → ⊥) → given ≡ refusal_of code (value values 0)

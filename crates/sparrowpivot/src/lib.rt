@@ -1,4 +1,4 @@
-// The static library: what programs in other languages call; include/sparrowpivot.h declares it. A slice is passed as a pointer and a count. A function that answers
+// What programs in other languages call, exported by crate sparrowpivot_c; include/sparrowpivot.h declares it. A slice is passed as a pointer and a count. A function that answers
 // more than one number puts them into eight lent numbers, all of which it writes, 0 where unused, and returns 01's refusal number, 0 where nothing is refused.
 
 #![tactic(auto)]
