@@ -5,7 +5,6 @@
 use std::env;
 use std::fs::File;
 use std::os::fd::AsRawFd;
-use std::rt::Files;
 
 // The descriptor of standard output.
 const STDOUT_FILENO: i32 = 1;
@@ -26,19 +25,25 @@ fn list(fd: i32) {
     write(&out, size);
 }
 
+// Says on standard error why a file could not be opened.
+fn fail(rt: &HostRuntime, name: &str, why: std::io::Error) {
+    let _said = eprintln!(rt; "{name}: {why}");
+}
+
 // Prints the name of a file and its listing.
-fn show(rt: &impl Files<File = File>, name: &str) -> std::io::Result<()> {
+fn show(rt: &HostRuntime, name: &str) {
     io::write_all(STDOUT_FILENO, b"== ");
     io::write_all(STDOUT_FILENO, name.as_bytes());
     io::write_all(STDOUT_FILENO, b"\n");
-    let file = File::open(rt, name)?;
-    list(file.as_raw_fd());
-    Ok(())
+    match File::open(rt, name) {
+        Ok(file) => list(file.as_raw_fd()),
+        Err(why) => fail(rt, name, why),
+    }
 }
 
 fn main(rt: HostRuntime) -> std::io::Result<()> {
     for name in env::args(&rt)?.skip(1) {
-        show(&rt, name.as_str())?;
+        show(&rt, name.as_str());
     }
     Ok(())
 }

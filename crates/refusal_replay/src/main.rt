@@ -10,7 +10,6 @@ use file::Answer;
 use std::env;
 use std::fs::File;
 use std::os::fd::AsRawFd;
-use std::rt::Files;
 
 // The descriptor of standard output.
 const STDOUT_FILENO: i32 = 1;
@@ -192,49 +191,53 @@ fn show_file(file: &[u8], r: usize, p: usize, n: usize) {
     show_read(file, &mut records[..rs], &mut paths[..ps], &mut nodes[..ns]);
 }
 
-// Shows a file by its name. Where more than three nodes are lent, all records and paths are too.
-fn show(
-    rt: &impl Files<File = File>,
-    name: &str,
-    r: usize,
-    p: usize,
-    n: usize,
-) -> std::io::Result<()> {
-    text(b"== ");
-    text(name.as_bytes());
-    text(b"\n");
-    let input = File::open(rt, name)?;
+// Shows an open file. Where more than three nodes are lent, all records and paths are too.
+fn show_open(fd: i32, r: usize, p: usize, n: usize) {
     let mut file = io::buffer();
-    let size = io::read_full(input.as_raw_fd(), &mut file);
-    drop(input);
+    let size = io::read_full(fd, &mut file);
     if NODES < n {
         show_deep_file(&file[..size], n);
     } else {
         show_file(&file[..size], r, p, n);
     }
-    Ok(())
+}
+
+// Says on standard error why a file could not be opened.
+fn fail(rt: &HostRuntime, name: &str, why: std::io::Error) {
+    let _said = eprintln!(rt; "{name}: {why}");
+}
+
+// Shows a file by its name.
+fn show(rt: &HostRuntime, name: &str, r: usize, p: usize, n: usize) {
+    text(b"== ");
+    text(name.as_bytes());
+    text(b"\n");
+    match File::open(rt, name) {
+        Ok(file) => show_open(file.as_raw_fd(), r, p, n),
+        Err(why) => fail(rt, name, why),
+    }
 }
 
 // Rooms too small by one, and as small as will do.
-fn show_entry_rooms(rt: &impl Files<File = File>) -> std::io::Result<()> {
-    show(rt, "page-one-line", 95, PATHS, NODES)?;
-    show(rt, "page-one-line", RECORDS, 0, NODES)?;
-    show(rt, "page-one-line", 96, 1, 0)?;
-    show(rt, "r6-second", 191, PATHS, NODES)?;
-    show(rt, "r6-second", RECORDS, 2, NODES)?;
-    show(rt, "r6-second", 192, 3, 0)?;
-    show(rt, "r5-before-r6", 0, 0, 0)
+fn show_entry_rooms(rt: &HostRuntime) {
+    show(rt, "page-one-line", 95, PATHS, NODES);
+    show(rt, "page-one-line", RECORDS, 0, NODES);
+    show(rt, "page-one-line", 96, 1, 0);
+    show(rt, "r6-second", 191, PATHS, NODES);
+    show(rt, "r6-second", RECORDS, 2, NODES);
+    show(rt, "r6-second", 192, 3, 0);
+    show(rt, "r5-before-r6", 0, 0, 0);
 }
 
-fn show_node_rooms(rt: &impl Files<File = File>) -> std::io::Result<()> {
-    show(rt, "r10-no-node", RECORDS, PATHS, 71)?;
-    show(rt, "r10-no-node", RECORDS, PATHS, 72)?;
-    show(rt, "r10-second", RECORDS, PATHS, 72)?;
-    show(rt, "r10-second", RECORDS, PATHS, 144)?;
-    show(rt, "D8", RECORDS, PATHS, DEEP_NODES)?;
-    show(rt, "D8", RECORDS, PATHS, DEEP_NODES - 1)?;
-    show(rt, "r9-not-at-512", RECORDS, PATHS, DEEP_NODES)?;
-    show(rt, "r9-after-entry", RECORDS, PATHS, DEEP_NODES)
+fn show_node_rooms(rt: &HostRuntime) {
+    show(rt, "r10-no-node", RECORDS, PATHS, 71);
+    show(rt, "r10-no-node", RECORDS, PATHS, 72);
+    show(rt, "r10-second", RECORDS, PATHS, 72);
+    show(rt, "r10-second", RECORDS, PATHS, 144);
+    show(rt, "D8", RECORDS, PATHS, DEEP_NODES);
+    show(rt, "D8", RECORDS, PATHS, DEEP_NODES - 1);
+    show(rt, "r9-not-at-512", RECORDS, PATHS, DEEP_NODES);
+    show(rt, "r9-after-entry", RECORDS, PATHS, DEEP_NODES);
 }
 
 // Input of 65,536 bytes is read, and longer input is not.
@@ -251,11 +254,11 @@ fn show_too_big() {
 }
 
 fn main(rt: HostRuntime) -> std::io::Result<()> {
-    show_entry_rooms(&rt)?;
-    show_node_rooms(&rt)?;
+    show_entry_rooms(&rt);
+    show_node_rooms(&rt);
     show_too_big();
     for name in env::args(&rt)?.skip(1) {
-        show(&rt, name.as_str(), RECORDS, PATHS, NODES)?;
+        show(&rt, name.as_str(), RECORDS, PATHS, NODES);
     }
     Ok(())
 }

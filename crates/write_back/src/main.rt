@@ -4,13 +4,11 @@
 #![tactic(auto)]
 
 ghost use Rattle.io.specs.Counts.{IsPrefixLen};
-ghost use Rattle.std.specs.Prelude.{IfOk};
 
 use file::Answer as Got;
 use std::env;
 use std::fs::File;
 use std::os::fd::AsRawFd;
-use std::rt::Files;
 use write::{Answer, Options};
 
 // The descriptor of standard output.
@@ -150,31 +148,40 @@ fn write_back(file: &[u8], rust: &[u8]) {
     }
 }
 
+// Says on standard error why a file could not be opened.
+fn fail(rt: &HostRuntime, name: &str, why: std::io::Error) {
+    let _said = eprintln!(rt; "{name}: {why}");
+}
+
 // Reads the file of that name into s, and answers how many bytes it has.
-fn load(rt: &impl Files<File = File>, name: &str, s: &mut [u8]) -> std::io::Result<usize>
-    ensures { IfOk result (λ n. IsPrefixLen n s.new) }
+fn load(rt: &HostRuntime, name: &str, s: &mut [u8]) -> usize
+    ensures { IsPrefixLen result s.new }
 {
-    let file = File::open(rt, name)?;
-    Ok(io::read_full(file.as_raw_fd(), s))
+    match File::open(rt, name) {
+        Ok(file) => io::read_full(file.as_raw_fd(), s),
+        Err(why) => {
+            fail(rt, name, why);
+            0
+        }
+    }
 }
 
 // The file of that name, and beside it what the Rust wrote.
-fn show_pair(rt: &impl Files<File = File>, name: &str, beside: &str) -> std::io::Result<()> {
+fn show_pair(rt: &HostRuntime, name: &str, beside: &str) {
     let mut file = [0u8; 8192];
     let mut rust = [0u8; 8192];
-    let n = load(rt, name, &mut file)?;
-    let m = load(rt, beside, &mut rust)?;
+    let n = load(rt, name, &mut file);
+    let m = load(rt, beside, &mut rust);
     text(name.as_bytes());
     write_back(&file[..n], &rust[..m]);
-    Ok(())
 }
 
 fn main(rt: HostRuntime) -> std::io::Result<()> {
     let names: Vec<String> = env::args(&rt)?.skip(1).collect(rt.alloc())?;
     for pair in names.as_slice().chunks(2) {
         match pair {
-            [name, beside] => show_pair(&rt, name.as_str(), beside.as_str())?,
-            [name] => show_pair(&rt, name.as_str(), "")?,
+            [name, beside] => show_pair(&rt, name.as_str(), beside.as_str()),
+            [name] => show_pair(&rt, name.as_str(), ""),
             _ => (),
         }
     }
