@@ -16,7 +16,7 @@ use Rattle.grammar.specs.Extension.{Ext, TREE, Extensions, NoneSigned, LastSigne
 use Rattle.grammar.specs.Tree.{Tree, nodes}
 use Rattle.grammar.specs.File.{Index, DIRC, header_length, Supported, Sparse, Tells, CacheTree, spelled, malformed, absent, File, version_of, count_of, space, GoodHeader}
 use Rattle.grammar.proofs.Space.{Spells, spells, spelled_has_good_header, spelled_in_space, space_spelled}
-use Rattle.grammar.proofs.Fault.{stray, refused, Faulty}
+use Rattle.grammar.specs.Fault.{stray, refused, Faulty}
 use Rattle.grammar.proofs.Reach.{depth_within, nodes_within}
 use Rattle.grammar.proofs.Unique.{one_meaning}
 use Rattle.claims_entries.specs.Rendering.{records_bytes, paths_bytes}

@@ -22,8 +22,8 @@ use Rattle.node.specs.Store.{node_size, nodes_in, word_at, name_at}
 use Rattle.grammar.specs.Entry.{Meaning}
 use Rattle.grammar.specs.Number.{Count}
 use Rattle.grammar.specs.Tree.{Tree, tree, Subtrees, childless, beside, nodes, nodes_of}
-use Rattle.claims_entries.proofs.Fields.{Shows}
-use Rattle.claims_entries.proofs.Shown.{EachShown}
+use Rattle.claims_entries.specs.Fields.{Shows}
+use Rattle.claims_entries.specs.Shown.{EachShown}
 use Rattle.claims_tree.specs.Shown.{ShowsNode, ShowsTree, ShowsSubtrees}
 
 -- ---- the first bytes of a list

@@ -12,7 +12,7 @@ use Rattle.grammar.specs.Entry.{Meaning, start, Entry, Entries}
 use Rattle.grammar.specs.Extension.{Ext, TREE, Extensions, NoneSigned, LastSigned}
 use Rattle.grammar.specs.Tree.{Tree, depth, nodes, Node}
 use Rattle.grammar.specs.File.{DIRC, header_length, Supported, Sparse, Tells, version_of, count_of, space, GoodHeader}
-use Rattle.grammar.proofs.Fault.{stray, refused, Faulty}
+use Rattle.grammar.specs.Fault.{stray, refused, Faulty}
 use Rattle.claims_entries.specs.Rendering.{records_bytes, paths_bytes}
 use Rattle.claims_entries.specs.Said.{filled, after, Fits, Lacks}
 use Rattle.claims_tree.specs.Rendering.{tree_bytes}

@@ -24,7 +24,8 @@ use Rattle.grammar.proofs.Unique.{tree_unique}
 use Rattle.claims_entries.specs.Rendering.{records_bytes, paths_bytes}
 use Rattle.claims_entries.specs.Said.{SpaceIn, filled}
 use Rattle.claims_entries.proofs.Fields.{meaning_at_lem}
-use Rattle.claims_entries.proofs.Shown.{EachShown, stored_entries_show}
+use Rattle.claims_entries.specs.Shown.{EachShown}
+use Rattle.claims_entries.proofs.Shown.{stored_entries_show}
 use Rattle.claims_tree.specs.Rendering.{tree_bytes}
 use Rattle.claims_tree.specs.Said as tree
 use Rattle.claims_tree.specs.Said.{lent}

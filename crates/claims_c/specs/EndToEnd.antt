@@ -25,9 +25,9 @@ use Rattle.grammar.specs.Number.{big_endian}
 use Rattle.grammar.specs.Entry.{Meaning}
 use Rattle.grammar.specs.Tree.{Tree}
 use Rattle.grammar.specs.File.{Index, DIRC, header_length, Supported, File, version_of, count_of, space, GoodHeader}
-use Rattle.grammar.proofs.Fault.{stray, refused, Faulty}
+use Rattle.grammar.specs.Fault.{stray, refused, Faulty}
 use Rattle.claims_entries.specs.Rendering.{paths_bytes}
-use Rattle.claims_entries.proofs.Shown.{EachShown}
+use Rattle.claims_entries.specs.Shown.{EachShown}
 use Rattle.claims_entries.specs.Said.{StopsAt, RoomFor, LacksRoomAt}
 use Rattle.claims_tree.specs.Rendering.{count_word}
 use Rattle.claims_tree.specs.Said.{lent, GoesTooDeep, UsesUp}

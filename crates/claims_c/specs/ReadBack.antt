@@ -28,7 +28,7 @@ use Rattle.write.specs.declared.Options.{Options}
 use Rattle.write.specs.File.{Outcome, writes_tree, write_all}
 use Rattle.claims.specs.Premises.{Slices}
 use Rattle.claims_entries.specs.Rendering.{paths_bytes}
-use Rattle.claims_entries.proofs.Fields.{Shows}
+use Rattle.claims_entries.specs.Fields.{Shows}
 use Rattle.claims_write.specs.Meaning.{stat_of, written_flags, meaning_of, kept_of, meanings_of, PathsEnd, WritableTable}
 use Rattle.claims_write.specs.Spelled.{index_of, file_in, written_is_spelled}
 use Rattle.claims_write.specs.Answers.{done_exactly}

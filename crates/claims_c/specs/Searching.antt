@@ -20,7 +20,7 @@ use Rattle.access.specs.declared.verify.Verified.{Verified}
 use Rattle.access.specs.declared.verify.Verified.TheVariants as verified
 use Rattle.grammar.specs.Entry.{Meaning}
 use Rattle.claims_entries.proofs.Fields.{meaning_at_lem}
-use Rattle.claims_entries.proofs.Shown.{EachShown}
+use Rattle.claims_entries.specs.Shown.{EachShown}
 use Rattle.sparrowpivot.specs.Told.{Told, eight}
 use Rattle.claims_settled.specs.Exports.{LookupCall, lookup_tells, CheckOrderCall, check_order_tells}
 use Rattle.claims_c.specs.Terms.{value, EntryIs, ComesBefore, InOrder, FirstNotAfter, EntryHas}

@@ -19,7 +19,7 @@ use Rattle.grammar.specs.Entry.{Meaning}
 use Rattle.grammar.specs.Tree.{Tree}
 use Rattle.grammar.specs.File.{Index, File}
 use Rattle.claims_entries.specs.Rendering.{paths_bytes}
-use Rattle.claims_entries.proofs.Fields.{Shows}
+use Rattle.claims_entries.specs.Fields.{Shows}
 use Rattle.claims.specs.Premises.{Slices}
 use Rattle.claims.specs.Claims.{has_tree, nodes_of, accepted_is_the_one_meaning}
 use Rattle.claims.specs.Shown.{ShowsIndex, shown_by_the_first, accepted_is_shown}

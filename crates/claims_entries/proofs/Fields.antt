@@ -1,6 +1,6 @@
 -- What the accessors show of a rendering: field for field the meaning that was rendered, its path in the path store, whatever stands behind it. A spelling in bytes means
 -- numbers that fit their places in a record. Assumes nothing.
-use Rattle.std.specs.Prelude.{ℕ, zero, suc, ◌+◌, ◌-◌, ◌*◌, ◌/◌, ◌^◌, ◌≤◌, ◌<◌, ◌≡◌, refl, true, get_or, drop}
+use Rattle.std.specs.Prelude.{ℕ, zero, suc, ◌+◌, ◌-◌, ◌*◌, ◌/◌, ◌^◌, ◌≤◌, ◌<◌, ◌≡◌, refl, get_or, drop}
 use Rattle.std.proofs.Common.{sym, ◌∙◌, subst, ⊎_elim, arith, lit≤, lit<, length-append, length-drop, drop_at, drop-drop, take_all, le-leb}
 use Rattle.std.proofs.Math.Path.{ap}
 use mathlib.Core.List.{List, [], ◌∷◌, ◌++◌, append_assoc}
@@ -15,16 +15,15 @@ use Rattle.wire.specs.BigEndian.{be_at, bytes_of, length-bytes, be_left, be_righ
 use Rattle.entry.specs.Flags.{stage_raw}
 use Rattle.entry.specs.Layout.{record_size}
 use Rattle.entry.specs.Paths.{Paths, lying_in}
-use Rattle.entry.specs.Record.{records_in, rest_of, field_at, mode_at, flags_at, stage_at, start_at, end_at, id_at, lies_inside, path_at}
-use Rattle.entry.specs.Stat.{stat_at}
+use Rattle.entry.specs.Record.{rest_of, field_at, flags_at, start_at, end_at, id_at}
 use Rattle.entry.specs.Laws.{field_is, id_is, inside_is, path_is}
 use Rattle.entry.specs.Found.{flags_behind, start_behind, end_behind}
-use Rattle.entry.specs.declared.stat.Stat.{Stat as ShownStat}
 use Rattle.grammar.specs.Number.{big_endian, BigEndian, big_endian_lem}
 use Rattle.grammar.specs.Entry.{Stat, Meaning, meaning, Words, no_words, word, kept_mode, Fields, fields, Flags, plain, extended, Before, Entry, entry, Entries}
 use Rattle.claims_entries.specs.Parts.{be_is}
 use Rattle.claims_entries.specs.Rendering.{word_bytes, numbers_of, record_bytes, records_bytes, paths_bytes, Bytes, length-words, length_record}
 use Rattle.claims_entries.specs.Said.{filled}
+use Rattle.claims_entries.specs.Fields.{stat_shown, Shows}
 
 -- ---- numbers that fit
 
@@ -161,33 +160,6 @@ unfolding records_bytes
 length-records n from h none_left = refl
 length-records n from h (each {m = m} {ms = ms} f g) =
     length-append (record_bytes n from m) (records_bytes n (from + length m.path) ms) ∙ omega (arith, length_record n from m h f.id, length-records n (from + length m.path) h g)
-
--- the fields of the file system, as the accessors answer them
-abbrev pub stat_shown : Stat → ShownStat
-stat_shown t =
-    record {
-      mtime = record { secs = t.mtime; nsecs = t.mtime_nanos };
-      ctime = record { secs = t.ctime; nsecs = t.ctime_nanos };
-      dev = t.dev;
-      ino = t.ino;
-      uid = t.uid;
-      gid = t.gid;
-      size = t.size;
-    }
-
--- record i shows the meaning m, and its path lies where paths lie
-pub record Shows (n : ℕ) (rs : List ℕ) (ps : Paths) (i : ℕ) (m : Meaning) : Type 0 where
-  pub there : i < records_in rs
-  pub stat : stat_at rs i ≡ stat_shown m.stat
-  pub mode : mode_at rs i ≡ m.stat.mode
-  pub id : id_at n rs i ≡ m.id
-  pub flags : flags_at rs i ≡ m.flags
-  pub stage : stage_at rs i ≡ stage_raw m.flags
-  pub start : ℕ
-  pub starts : start_at rs i ≡ start
-  pub ends : end_at rs i ≡ start + length m.path
-  pub inside : lies_inside rs ps i ≡ true
-  pub path : path_at rs ps i ≡ m.path
 
 module _ (n : ℕ) (hid : n ≤ 32) (from i : ℕ) (m : Meaning) (fit : FitsRecord n m) (p q x y : List ℕ) (at_row : length p ≡ i * 96) (at_path : length x ≡ from) (small : from + length m.path < 2 ^ 64) where
   -- a record and its path, behind p and x and before anything

@@ -1,14 +1,12 @@
 -- What a reading of entries leaves, through the accessors: each record shows its entry's meaning, and its path lies in the path store, so that refusal 12 never arises on it.
 -- Assumes that a record has room for an id, that the file is bytes, that the entries' space lies in it, and that the path store can be addressed by 64 bits, each a premise with a name.
-use Rattle.std.specs.Prelude.{ℕ, ◌+◌, ◌^◌, ◌≤◌, ◌<◌, ◌≡◌, List, Bool, true, length, take, drop}
+use Rattle.std.specs.Prelude.{ℕ, ◌+◌, ◌≤◌, ◌<◌, ◌≡◌, List, Bool, true, take, drop}
 use Rattle.std.proofs.Common.{sym, subst, arith, take-append-drop, get_or-drop}
-use Rattle.std.proofs.Math.Option.{some}
-use Rattle.std.proofs.Math.ListN.{get_elem?}
 use Rattle.laws.specs.Read.{Begins}
 use Rattle.wire.specs.declared.FileAt.{FileAt}
 use Rattle.wire.specs.declared.PathAt.{PathAt}
 use Rattle.format.specs.Format.{id_room}
-use Rattle.entry.specs.Paths.{Paths, lying_in}
+use Rattle.entry.specs.Paths.{lying_in}
 use Rattle.entry.specs.Record.{lies_inside}
 use Rattle.decode.specs.Entries.{Outcome}
 use Rattle.decode.specs.declared.entries.Answer.TheVariants.{Done}
@@ -16,20 +14,13 @@ use Rattle.grammar.specs.Entry.{Meaning, start, Entries}
 use Rattle.claims_entries.specs.Rendering.{records_bytes, paths_bytes, Bytes}
 use Rattle.claims_entries.specs.Said.{entries_space, SpaceIn, reading_of, filled, Fits, SaysRead, says_done, says_not_spelled, says_no_room, IsDone}
 use Rattle.claims_entries.proofs.Claims.{answer_says}
-use Rattle.claims_entries.proofs.Fields.{Shows, bytes_left, spelled_each_fits, spelled_length, rendered_fields, meaning_at_lem}
-
--- 64 bits address each byte of a store
-abbrev pub Addressable : List ℕ → Type 0
-Addressable ps = length ps < 2 ^ 64
+use Rattle.claims_entries.proofs.Fields.{bytes_left, spelled_each_fits, spelled_length, rendered_fields, meaning_at_lem}
+use Rattle.claims_entries.specs.Shown.{Addressable, EachShown}
 
 -- a part of bytes is bytes
 bytes_space : (file : List ℕ) (from end : ℕ) → Bytes file → Bytes (entries_space file from end)
 bytes_space file from end h i =
     rw (get_or-drop from (take end file) i 0) (bytes_left (take end file) (drop end file) (subst Bytes (sym (take-append-drop end file)) h) (from + i))
-
--- record i of a table and its store shows entry i of these
-abbrev pub EachShown : ℕ → List ℕ → Paths → List Meaning → Type 0
-EachShown id rs ps ms = (i : ℕ) (m : Meaning) → get_elem? ms i ≡ some m → Shows id rs ps i m
 
 module _ (id : ℕ) (fits : id ≤ id_room) (file : List ℕ) (bytes : Bytes file) (version from end count : ℕ) (lies_in : SpaceIn file from end) (rs ps : List ℕ) (small : Addressable ps) where
   -- k entries that are spelled and have room, whatever the answer

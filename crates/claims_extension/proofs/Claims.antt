@@ -14,7 +14,8 @@ use Rattle.extension.specs.declared.decode.Space.TheVariants.{Filled, NotFilled,
 use Rattle.grammar.specs.Number.{big_endian}
 use Rattle.grammar.specs.Extension.{Ext, Extensions, NoneSigned, LastSigned}
 use Rattle.grammar.specs.File.{Tells}
-use Rattle.grammar.proofs.Fault.{stray, refused, Faulty, fault_not_spelled}
+use Rattle.grammar.specs.Fault.{stray, refused, Faulty}
+use Rattle.grammar.proofs.Fault.{fault_not_spelled}
 use Rattle.grammar.proofs.Unique.{extensions_unique}
 use Rattle.claims_entries.specs.Rendering.{Bytes}
 use Rattle.claims_extension.specs.Words.{bytes_within, FourBytes, TREE-bytes, signature_injective}

@@ -1,3 +1,3 @@
--- The theorems: `Claims` has them, and `Shown` that their premise can be met and matters. Assumes nothing.
+-- The claims on the walk over the extensions (Claims), and that their premise can be met and matters (Shown). Assumes nothing.
 pub mod Claims
 pub mod Shown

@@ -3,7 +3,8 @@ use Rattle.std.specs.Prelude.{ℕ, ◌+◌, ◌-◌, ◌≤◌, ◌≡◌, refl,
 use Rattle.std.proofs.Common.{sym, ap, ◌∙◌, subst, append_assoc, arith, length-append, length-drop, drop_at, drop-drop, take_at, take-add, take-take, length-take-le}
 use Rattle.laws.specs.Fill.{done, more}
 use Rattle.grammar.specs.Extension.{Ext, Framed, framed, extension_header, Extensions, bytes_of, LastSigned, last_signed}
-use Rattle.grammar.proofs.Fault.{refused, Faulty, refused_extension, extensions_length}
+use Rattle.grammar.specs.Fault.{refused, Faulty, refused_extension}
+use Rattle.grammar.proofs.Fault.{extensions_length}
 use Rattle.grammar.proofs.DecideNumber.{big_endian_length}
 use Rattle.claims_entries.specs.Rendering.{Bytes}
 use Rattle.claims_entries.proofs.Fields.{bytes_left, bytes_right}

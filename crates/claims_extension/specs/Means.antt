@@ -20,8 +20,8 @@ use Rattle.extension.specs.declared.iter.Body.{Body}
 use Rattle.extension.specs.declared.iter.Body.TheVariants.{Lies, Missing}
 use Rattle.grammar.specs.Number.{big_endian, BigEndian, big_endian_lem}
 use Rattle.grammar.specs.Extension.{Ext, ext, Framed, framed, extension_header, Mandatory, sdir, Allowed, optional, empty_sdir, Extension, Extensions, NoneSigned, none_left, another, bytes_of, LastSigned, last_signed}
-use Rattle.grammar.proofs.Fault as fault
-use Rattle.grammar.proofs.Fault.{Faulty, stray_bytes, refused_extension}
+use Rattle.grammar.specs.Fault as fault
+use Rattle.grammar.specs.Fault.{Faulty, stray_bytes, refused_extension}
 use Rattle.grammar.specs.File.{Tells, it_is, it_is_not}
 use Rattle.grammar.proofs.DecideNumber.{big_endian_length}
 use Rattle.grammar.proofs.DecideExtension.{is_optional, OptionalOrNot, is_optional_lem, is_mandatory, optional?}

@@ -13,7 +13,8 @@ use Rattle.grammar.specs.Number.{big_endian}
 use Rattle.grammar.specs.Entry.{Meaning}
 use Rattle.grammar.specs.Extension.{Ext, sdir, TREE, Extensions, NoneSigned, none_left, another, LastSigned, last_signed}
 use Rattle.grammar.specs.File.{directory_mode, Some, this, other, Sparse, by_entry, by_sdir, Tells, it_is, it_is_not}
-use Rattle.grammar.proofs.Fault.{stray, refused, Faulty, fault_unique, fault_not_spelled}
+use Rattle.grammar.specs.Fault.{stray, refused, Faulty}
+use Rattle.grammar.proofs.Fault.{fault_unique, fault_not_spelled}
 use Rattle.grammar.proofs.Unique.{extensions_unique}
 use Rattle.grammar.proofs.DecideExtension.{none_not_last, last_unique}
 use Rattle.grammar.proofs.DecideFile.{tells_unique}

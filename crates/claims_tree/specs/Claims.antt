@@ -18,11 +18,12 @@ use Rattle.tree.specs.Tree.{Out, and_then, node_at, alone, root_at, wiped, read_
 use Rattle.tree.specs.Frame.{node_kept}
 use Rattle.grammar.specs.Tree.{Tree, depth, nodes, Node}
 use Rattle.grammar.specs.Walk.{Reaches}
-use Rattle.grammar.proofs.Descent.{Comes, reached_exactly_by_a_way}
+use Rattle.grammar.specs.Descent.{Comes}
+use Rattle.grammar.proofs.Descent.{reached_exactly_by_a_way}
 use Rattle.grammar.proofs.Reach.{reaches_within, reaches_each_depth, reaches_each_node, depth_within, nodes_within}
 use Rattle.grammar.proofs.Unique.{node_unique, tree_unique}
 use Rattle.claims_entries.specs.Said.{SpaceIn}
-use Rattle.claims_entries.proofs.Shown.{Addressable}
+use Rattle.claims_entries.specs.Shown.{Addressable}
 use Rattle.claims_tree.specs.Place.{part}
 use Rattle.claims_tree.specs.Rendering.{tree_bytes, filled}
 use Rattle.claims_tree.specs.Said.{GoesTooDeep, UsesUp, SpellsTree, SpellsTreeWithin, KeepsWithinDepth, HasRoom, lent, zeroed, Left, SaysReadTree, says_tree, says_too_deep, says_no_room, says_malformed}

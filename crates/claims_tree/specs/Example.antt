@@ -9,7 +9,7 @@ use Rattle.grammar.specs.Number.{Digit, Digits, last_digit, invalid, minus}
 use Rattle.grammar.specs.Entry.{empty, byte}
 use Rattle.grammar.specs.Tree.{Tree, tree, childless, beside, depth, nodes, no_id, NodeHead, node_head, alone, no_names, one_more_lem, Node, node, no_node, one_node_lem}
 use Rattle.grammar.proofs.Reach.{depth_within, nodes_within}
-use Rattle.claims_entries.proofs.Shown.{Addressable}
+use Rattle.claims_entries.specs.Shown.{Addressable}
 use Rattle.claims_tree.specs.Place.{part}
 use Rattle.claims_tree.specs.Rendering.{tree_bytes, filled}
 use Rattle.claims_tree.specs.Said.{zeroed, lent}

@@ -19,7 +19,7 @@ use Rattle.grammar.specs.Number.{Count, Signed, plain, plus, minus_zero_lem, min
 use Rattle.grammar.specs.Tree.{Tree, tree, Subtrees, childless, beside, nodes, nodes_of, Id, of_tree, no_id, Head, NodeHead, node_head, Node, node, Nodes, no_node, one_node_lem}
 use Rattle.claims_entries.specs.Place.{Lies, lies_take, lies_left, lies_right, lies_from}
 use Rattle.claims_entries.specs.Said.{SpaceIn}
-use Rattle.claims_entries.proofs.Shown.{Addressable}
+use Rattle.claims_entries.specs.Shown.{Addressable}
 use Rattle.claims_tree.specs.Place.{part}
 use Rattle.claims_tree.specs.Rendering.{count_word, how_many, id_bytes, node_bytes, nodes_bytes, subtrees_bytes, tree_bytes}
 use Rattle.claims_tree.specs.Walk.{how_many_lem}

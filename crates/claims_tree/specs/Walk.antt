@@ -24,7 +24,7 @@ use Rattle.tree.specs.Tree.{Out, and_then, kids, settled_as, settled, body, node
 use Rattle.tree.specs.Frame.{Kept, node_kept, kids_frame, spelled, full, put_paste, put_long, put_start, put_stop, put_parent}
 use Rattle.tree.specs.Inside.{node_grows}
 use Rattle.grammar.specs.Tree.{Tree, tree, Subtrees, childless, beside, name_of, names, depth, deepest, nodes, nodes_of, Head, NodeHead, Node, node, Nodes, no_node, one_node_lem}
-use Rattle.grammar.proofs.Descent.{Comes, ComesAmong}
+use Rattle.grammar.specs.Descent.{Comes, ComesAmong}
 use Rattle.grammar.proofs.DecideTree.{IsDistinct, is_distinct, repeats}
 use Rattle.claims_tree.specs.Place.{part}
 use Rattle.claims_tree.specs.Rendering.{how_many, node_bytes, nodes_bytes, subtrees_bytes}

@@ -22,7 +22,7 @@ use Rattle.file.specs.Read.{Outcome, read_file}
 use Rattle.file.specs.declared.Answer.TheVariants.{Read}
 use Rattle.claims_entries.specs.Rendering.{paths_bytes}
 use Rattle.claims_entries.specs.Said.{filled, Fits}
-use Rattle.claims_entries.proofs.Fields.{Shows}
+use Rattle.claims_entries.specs.Fields.{Shows}
 use Rattle.claims.specs.Premises.{Slices}
 use Rattle.claims_tree.specs.Rendering.{tree_bytes}
 use Rattle.claims.specs.Claims.{has_tree, nodes_of, NodesAfter, the_tree, Renders}

@@ -24,7 +24,7 @@ use Rattle.grammar.proofs.Unique.{entries_unique, extensions_unique}
 use Rattle.file.specs.Read.{read_file}
 use Rattle.claims_entries.specs.Rendering.{records_bytes, paths_bytes, Bytes}
 use Rattle.claims_entries.specs.Said.{filled, Fits, RoomFor}
-use Rattle.claims_entries.proofs.Shown.{EachShown}
+use Rattle.claims_entries.specs.Shown.{EachShown}
 use Rattle.claims_entries.proofs.Fields.{bytes_left, bytes_right, spelled_each_fits, spelled_length, rendered_fields, paths_append}
 use Rattle.claims_tree.specs.Said.{lent, KeepsWithinDepth, HasRoom}
 use Rattle.claims.specs.Premises.{Slices, GoodTrailer, zeros, hashed}

@@ -18,7 +18,7 @@ use Rattle.tree_write.specs.Kids.{Mem, here, there, not_mem, Rising, done, more}
 use Rattle.grammar.specs.Tree.{Tree, tree, Subtrees, childless, beside, name_of, names, depth, deepest, nodes, nodes_of, Node}
 use Rattle.claims_entries.specs.Place.{Lies, lies_from}
 use Rattle.claims_entries.specs.Said.{SpaceIn}
-use Rattle.claims_entries.proofs.Shown.{Addressable}
+use Rattle.claims_entries.specs.Shown.{Addressable}
 use Rattle.claims_tree.specs.Rendering.{tree_bytes}
 use Rattle.claims_tree.specs.Place.{part}
 use Rattle.claims_tree.specs.Claims.{read_is_spelled}

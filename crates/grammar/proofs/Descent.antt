@@ -4,18 +4,7 @@ use Rattle.std.specs.Prelude.{ℕ, zero, suc, ◌+◌, ◌<◌, ◌≡◌, refl,
 use Rattle.std.proofs.Common.{sym, ap, ◌∙◌, subst, append_assoc, append-nil, arith, length-append}
 use Rattle.grammar.specs.Tree.{Tree, tree, Subtrees, childless, beside, name_of, names, nodes, nodes_of, Head, NodeHead, Distinct, Node, node, Nodes, no_node, one_node_lem}
 use Rattle.grammar.specs.Walk.{Group, group, Walked, begins, head, finished, Reaches, reaches}
-
-mutual
-  -- from a place on, x is what is left of the body
-  pub data Comes (n : ℕ) : ℕ → List ℕ → ℕ → ℕ → Type 0 where
-    here : {place : ℕ} {x : List ℕ} → Comes n place x 1 0
-    below : {place d k : ℕ} {x h b : List ℕ} {v : Head} → NodeHead n h v → x ≡ h ++ b → ComesAmong n (place + length h) v.subtrees b d k → Comes n place x (suc d) (suc k)
-
-  -- among so many subtrees that are to come
-  pub data ComesAmong (n : ℕ) : ℕ → ℕ → List ℕ → ℕ → ℕ → Type 0 where
-    in_this : {place left d k : ℕ} {x : List ℕ} → Comes n place x d k → ComesAmong n place (suc left) x d k
-    past : {place left d k j : ℕ} {x b c : List ℕ} {t : Tree} → Node n place b t → x ≡ b ++ c → ComesAmong n (place + length b) left c d k → j ≡ nodes t + k
-        → ComesAmong n place (suc left) x d j
+use Rattle.grammar.specs.Descent.{Comes, here, below, ComesAmong, in_this, past}
 
 -- ---- a node behind others
 

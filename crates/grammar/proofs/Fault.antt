@@ -9,17 +9,7 @@ use Rattle.grammar.specs.Extension.{Ext, Framed, framed, extension_header, Allow
 use Rattle.grammar.proofs.DecideNumber.{big_endian_length}
 use Rattle.grammar.proofs.DecideExtension.{read_framed, framed_reads, read_extensions, extensions_accepts, extensions_broken}
 use Rattle.grammar.proofs.Unique.{framed_unique}
-
-pub data Fault : Type 0 where
-  stray : (offset : ℕ) → Fault
-  refused : (signature : List ℕ) → Fault
-
--- behind extensions that may stand: bytes that begin with no extension, or an extension that may not stand. xs begins at a place of the file
-pub data Faulty (at : ℕ) (xs : List ℕ) : Fault → Type 0 where
-  stray_bytes : {b : List ℕ} {es : List Ext} (rest : List ℕ) → xs ≡ b ++ rest → Extensions b es → 0 < length rest → ((e : Ext) (q : List ℕ) → ¬ Begins Framed rest e q)
-      → Faulty at xs (stray (at + length b))
-  refused_extension : {b : List ℕ} {es : List Ext} {e : Ext} (rest q : List ℕ) → xs ≡ b ++ rest → Extensions b es → Begins Framed rest e q → (Allowed e → ⊥)
-      → Faulty at xs (refused e.signature)
+use Rattle.grammar.specs.Fault.{Fault, stray, refused, Faulty, stray_bytes, refused_extension}
 
 -- ---- extensions are as long as they say
 

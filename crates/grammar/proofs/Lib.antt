@@ -1,3 +1,5 @@
+-- What follows from the grammar of specs/: what decides it (Decide..), that it spells at most one meaning (Unique), a file by its places (Space), that there is one fault at most
+-- (Fault), the walk by its nodes (Descent, Reach), and files that are spelled and files that are not (Examples, EdgeExamples, WalkExamples). Assumes nothing.
 pub mod DecideNumber
 pub mod DecideEntry
 pub mod DecideExtension

@@ -6,7 +6,8 @@ use Rattle.laws.specs.Order.{compared}
 use Rattle.grammar.specs.Number.{covers, invalid}
 use Rattle.grammar.specs.Tree.{Tree, tree, childless, NodeHead, Node}
 use Rattle.grammar.specs.Walk.{Reaches}
-use Rattle.grammar.proofs.Descent.{here, below, in_this, past, reached_exactly_by_a_way}
+use Rattle.grammar.specs.Descent.{here, below, in_this, past}
+use Rattle.grammar.proofs.Descent.{reached_exactly_by_a_way}
 use Rattle.grammar.proofs.Reach.{reaches_each_depth, depth_within, nodes_within}
 use Rattle.grammar.proofs.DecideNumber.{decided, read_bytes, read_until, more_digits, read_digits, read_unsigned, read_signed}
 use Rattle.grammar.proofs.DecideExtension.{same_list}
