@@ -15,7 +15,7 @@ use Rattle.grammar.specs.Number.{VariableWidth}
 use Rattle.grammar.specs.Entry.{Meaning, meaning, kept_mode, Before, start, path as behind, Entry}
 use Rattle.grammar.specs.File.{Index, header_length, File}
 use Rattle.grammar.proofs.Space.{spelled_has_good_header}
-use Rattle.grammar.proofs.DecideNumber.{decided, read_bytes, read_big, read_groups, read_variable, read_until, variable_reads}
+use Rattle.grammar.specs.DecideNumber.{decided, read_bytes, read_big, read_groups, read_variable, read_until, variable_reads}
 use Rattle.grammar.proofs.DecideEntry.{read_words, read_fields, read_flags, read_counted, read_to_nul, read_compressed, read_name, read_entry, entry_reads}
 use Rattle.grammar.proofs.Unique.{number_unique, entry_unique, one_meaning}
 use Rattle.grammar.proofs.Examples as example

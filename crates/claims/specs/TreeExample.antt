@@ -14,7 +14,7 @@ use Rattle.file.specs.declared.Answer.TheVariants.{Read, NoNodeRoom}
 use Rattle.grammar.specs.Entry.{Meaning, start, Entries}
 use Rattle.grammar.specs.Extension.{TREE}
 use Rattle.grammar.specs.File.{Index, space}
-use Rattle.grammar.proofs.DecideNumber.{read_bytes, read_big, decided}
+use Rattle.grammar.specs.DecideNumber.{read_bytes, read_big, decided}
 use Rattle.grammar.proofs.DecideEntry.{read_words, read_fields, read_flags, read_counted, read_name, read_entry, read_entries, entries_reads}
 use Rattle.grammar.proofs.Unique.{entries_unique}
 use Rattle.grammar.proofs.Examples.{header, kept, extension, two_nodes, two_nodes_at, trailer, entry_a, index, version_2}

@@ -24,7 +24,7 @@ use Rattle.claims_entries.specs.Place.{Lies, lies_from, lies_to}
 use Rattle.claims_entries.specs.Measure.{refused_exactly_if_not_spelled}
 use Rattle.claims_entries.specs.Rendering.{records_bytes, paths_bytes, sparse_by, Bytes}
 use Rattle.claims_entries.specs.Said.{entries_space, SpaceIn, reading_of, filled, after, holding, done_by, Fits, SaysRead, says_done, says_not_spelled, says_no_room, IsDone, AllSpelled, StopsAt, RoomFor, LacksRoomAt}
-use Rattle.claims_entries.proofs.Reach.{Reach, whole, part, full, reach}
+use Rattle.claims_entries.specs.Reach.{Reach, whole, part, full, reach}
 use Rattle.claims_entries.proofs.Run.{Stands, none_yet, knows, first_after, run_steps, run_full, run_refused}
 
 paths_snoc : (ms : List Meaning) (m : Meaning) → length (paths_bytes (ms ++ (m ∷ []))) ≡ length (paths_bytes ms) + length m.path

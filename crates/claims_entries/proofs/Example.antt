@@ -10,7 +10,7 @@ use Rattle.wire.specs.Places.{file_at, path_at}
 use Rattle.format.specs.Format.{id_size}
 use Rattle.decode.specs.declared.entries.Answer.TheVariants.{Done, NotSpelled, NoRoom}
 use Rattle.grammar.specs.Entry.{Meaning, meaning, start, Entry, Entries}
-use Rattle.grammar.proofs.DecideNumber.{read_bytes, read_big, decided}
+use Rattle.grammar.specs.DecideNumber.{read_bytes, read_big, decided}
 use Rattle.grammar.proofs.DecideEntry.{read_words, read_fields, read_flags, read_counted, read_name, read_entry, read_entries, entry_reads, entries_reads}
 use Rattle.grammar.proofs.Unique.{entries_unique}
 use Rattle.claims_entries.specs.Rendering.{paths_bytes, sparse_by, Bytes}

@@ -19,7 +19,7 @@ use Rattle.measure.specs.declared.Head.{Head}
 use Rattle.measure.specs.declared.Head.TheVariants.{Fixed, Unfinished, Spoiled}
 use Rattle.grammar.specs.Number.{big_endian, BigEndian, big_endian_lem, Groups, VariableWidth}
 use Rattle.grammar.specs.Number.Groups.{last, next}
-use Rattle.grammar.proofs.DecideNumber.{big_endian_snoc}
+use Rattle.grammar.specs.DecideNumber.{big_endian_snoc}
 use Rattle.grammar.proofs.DecideEntry.{stat_of}
 use Rattle.grammar.specs.Entry.{Stat, Meaning, meaning, Words, no_words, word, Fields, fields, OnlyMarks, Flags, plain, extended, NoNul}
 use Rattle.grammar.specs.Entry.NoNul.{empty, byte}

@@ -5,7 +5,7 @@ use Rattle.laws.specs.Fill.{done, more}
 use Rattle.grammar.specs.Extension.{Ext, Framed, framed, extension_header, Extensions, bytes_of, LastSigned, last_signed}
 use Rattle.grammar.specs.Fault.{refused, Faulty, refused_extension}
 use Rattle.grammar.proofs.Fault.{extensions_length}
-use Rattle.grammar.proofs.DecideNumber.{big_endian_length}
+use Rattle.grammar.specs.DecideNumber.{big_endian_length}
 use Rattle.claims_entries.specs.Rendering.{Bytes}
 use Rattle.claims_entries.proofs.Fields.{bytes_left, bytes_right}
 use Rattle.claims_extension.specs.Words.{FourBytes}

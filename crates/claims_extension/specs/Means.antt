@@ -23,7 +23,7 @@ use Rattle.grammar.specs.Extension.{Ext, ext, Framed, framed, extension_header, 
 use Rattle.grammar.specs.Fault as fault
 use Rattle.grammar.specs.Fault.{Faulty, stray_bytes, refused_extension}
 use Rattle.grammar.specs.File.{Tells, it_is, it_is_not}
-use Rattle.grammar.proofs.DecideNumber.{big_endian_length}
+use Rattle.grammar.specs.DecideNumber.{big_endian_length}
 use Rattle.grammar.proofs.DecideExtension.{is_optional, OptionalOrNot, is_optional_lem, is_mandatory, optional?}
 use Rattle.claims_entries.specs.Rendering.{Bytes}
 use Rattle.claims_entries.proofs.Fields.{bytes_left}

@@ -22,7 +22,7 @@ use Rattle.grammar.specs.Entry.NoNul.{empty, byte}
 use Rattle.grammar.proofs.Fault.{extensions_length}
 use Rattle.grammar.specs.File.{Index, DIRC, File, space}
 use Rattle.grammar.proofs.Space.{spelled_has_good_header}
-use Rattle.grammar.proofs.DecideNumber.{read_bytes, read_big, read_until, decided}
+use Rattle.grammar.specs.DecideNumber.{read_bytes, read_big, read_until, decided}
 use Rattle.grammar.proofs.DecideEntry.{read_words, read_fields, read_flags, read_to_nul, read_name, read_entry, read_entries, entries_reads}
 use Rattle.grammar.proofs.Unique.{entries_unique}
 use Rattle.grammar.proofs.Examples.{path_to_nul}

@@ -18,8 +18,7 @@ use Rattle.tree.specs.Tree.{Out, and_then, node_at, alone, root_at, wiped, read_
 use Rattle.tree.specs.Frame.{node_kept}
 use Rattle.grammar.specs.Tree.{Tree, depth, nodes, Node}
 use Rattle.grammar.specs.Walk.{Reaches}
-use Rattle.grammar.specs.Descent.{Comes}
-use Rattle.grammar.proofs.Descent.{reached_exactly_by_a_way}
+use Rattle.grammar.specs.Descent.{Comes, reached_exactly_by_a_way}
 use Rattle.grammar.proofs.Reach.{reaches_within, reaches_each_depth, reaches_each_node, depth_within, nodes_within}
 use Rattle.grammar.proofs.Unique.{node_unique, tree_unique}
 use Rattle.claims_entries.specs.Said.{SpaceIn}

@@ -3,8 +3,7 @@ use Rattle.std.specs.Prelude.{ℕ, zero, suc, ◌+◌, ◌≤◌, ◌<◌, ◌�
 use Rattle.std.proofs.Common.{sym, ap, ◌∙◌, subst, append_assoc, arith}
 use Rattle.laws.specs.Read.{Begins}
 use Rattle.grammar.specs.Tree.{Tree, tree, Subtrees, beside, names, nodes, nodes_of, Head, NodeHead, Distinct, Node, node, Nodes, no_node, one_node_lem}
-use Rattle.grammar.specs.Descent.{Comes, here, below, ComesAmong, in_this, past}
-use Rattle.grammar.proofs.Descent.{moved, some_left}
+use Rattle.grammar.specs.Descent.{Comes, here, below, ComesAmong, in_this, past, moved, some_left}
 use Rattle.grammar.proofs.Unique.{head_unique, node_unique}
 
 -- ---- what is known where the walk stops. R spells what should stand at x, and the walk comes to C e k: at depth e after k heads

@@ -9,8 +9,8 @@ use Rattle.laws.specs.Times.{read_times, times_reads, as_got}
 use Rattle.grammar.specs.Number.{VariableWidth}
 use Rattle.grammar.specs.Entry.{Stat, Meaning, meaning, Words, no_words, word, kept_mode, Fields, fields, extended_bit, length_field, kept_bits, Flags, plain, extended, Padding, NoNul, Before, start, path, full_field, Name, counted, ended, first, later, Entry, entry, behind, Entries}
 use Rattle.grammar.specs.Entry.NoNul.{empty, byte}
-use Rattle.grammar.proofs.DecideNumber.{Bytes, bytes, read_bytes, bytes_reads, read_big, big_reads, read_variable, variable_reads, Without, Until, until, read_until, until_here, until_reads}
-use Rattle.grammar.proofs.DecideNumber.Without.{empty as empty₁, byte as byte₁}
+use Rattle.grammar.specs.DecideNumber.{Bytes, bytes, read_bytes, bytes_reads, read_big, big_reads, read_variable, variable_reads, Without, Until, until, read_until, until_here, until_reads}
+use Rattle.grammar.specs.DecideNumber.Without.{empty as empty₁, byte as byte₁}
 
 pub says_if_same : {B : Type 0} {T : List ℕ → B → Type 0} {xs : List ℕ} {g h : Got B} (m n : ℕ) → (m ≡ n → Says T xs g) → ((m ≡ n → ⊥) → Says T xs h) → Says T xs (pick (eqb m n) g h)
 says_if_same {T = T} {xs} {g} {h} m n f k = go (same? m n)

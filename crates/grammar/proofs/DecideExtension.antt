@@ -10,7 +10,7 @@ use Rattle.laws.specs.Fill.{Filled, filled, broken, Breaks, read_fill, fill_acce
 use Rattle.laws.specs.Order.{Comparison, below, equal, beyond, compared, compares, Compares, is_below_lem, is_equal_lem, is_beyond, irreflexive, compared_same, Before}
 use Rattle.grammar.specs.Number.{BigEndian}
 use Rattle.grammar.specs.Extension.{Ext, ext, Framed, framed, extension_header, Optional, Mandatory, sdir, Allowed, optional, empty_sdir, Extension, Extensions, NoneSigned, none_left, another, bytes_of, LastSigned, last_signed}
-use Rattle.grammar.proofs.DecideNumber.{Bytes, bytes, read_bytes, bytes_reads, read_big, big_reads}
+use Rattle.grammar.specs.DecideNumber.{Bytes, bytes, read_bytes, bytes_reads, read_big, big_reads}
 
 -- ---- two lists are the same
 

@@ -14,7 +14,7 @@ use Rattle.grammar.specs.Tree.{Tree, Node}
 use Rattle.grammar.specs.File.{Index, DIRC, header_length, Supported, Header, header, directory_mode, Some, Sparse, by_entry, by_sdir, Tells, it_is, it_is_not, CacheTree, malformed, absent, Trailer, File, file}
 use Rattle.grammar.specs.File.Some.{this, other}
 use Rattle.grammar.specs.File.CacheTree.{spelled as spells}
-use Rattle.grammar.proofs.DecideNumber.{big_endian_length, Bytes, bytes, read_bytes, bytes_reads, read_big, big_reads, Whole, means, nothing_said}
+use Rattle.grammar.specs.DecideNumber.{big_endian_length, Bytes, bytes, read_bytes, bytes_reads, read_big, big_reads, Whole, means, nothing_said}
 use Rattle.grammar.proofs.DecideEntry.{read_entries, entries_reads}
 use Rattle.grammar.proofs.DecideExtension.{SameList, same_list_lem, other_list, same_list, same_list?, list_true, read_extensions, extensions_accepts, read_last, SaysLast, last_is, none_is, last_says, none_not_last, last_unique}
 use Rattle.grammar.proofs.DecideTree.{read_tree, SaysTree, is_tree, no_tree, tree_says, tree_unique}

@@ -7,7 +7,7 @@ use Rattle.laws.specs.Pick.{pick}
 use Rattle.laws.specs.Read.{Got, got, none, Says, spelled, refused, Reads, next, says_next}
 use Rattle.grammar.specs.Number.{Count, covers, invalid, Signed, Unsigned}
 use Rattle.grammar.specs.Tree.{Tree, tree, Subtrees, childless, beside, names, depth, deepest, Head, Id, of_tree, no_id, NodeHead, node_head, Other, alone, differs, Distinct, no_names, one_more_lem, Node, node, Nodes, no_node, one_node_lem}
-use Rattle.grammar.proofs.DecideNumber.{Bytes, bytes, read_bytes, bytes_reads, read_until, Ended, ended, read_ended, read_signed, read_unsigned, signed_reads, unsigned_reads}
+use Rattle.grammar.specs.DecideNumber.{Bytes, bytes, read_bytes, bytes_reads, read_until, Ended, ended, read_ended, read_signed, read_unsigned, signed_reads, unsigned_reads}
 use Rattle.grammar.proofs.DecideEntry.{Text, text, text_reads}
 use Rattle.grammar.proofs.DecideExtension.{SameList, same_list_lem, other_list, same_list, same_list?}
 

@@ -9,7 +9,7 @@ use Rattle.grammar.specs.Entry.{Stat, Meaning, meaning}
 use Rattle.grammar.specs.Extension.{sdir, TREE}
 use Rattle.grammar.specs.Tree.{Tree, tree, childless, beside}
 use Rattle.grammar.specs.File.{Index, DIRC, File}
-use Rattle.grammar.proofs.DecideNumber.{read_bytes, read_big, read_groups, read_variable, read_until, more_digits, read_digits, read_unsigned, read_signed}
+use Rattle.grammar.specs.DecideNumber.{read_bytes, read_big, read_groups, read_variable, read_until, more_digits, read_digits, read_unsigned, read_signed}
 use Rattle.grammar.proofs.DecideEntry.{read_words, read_fields, read_flags, read_counted, read_to_nul, read_compressed, read_name, read_entry, read_entries}
 use Rattle.grammar.proofs.DecideExtension.{same_list, read_framed, is_optional, allowed, read_extension, read_extensions, read_last}
 use Rattle.grammar.proofs.DecideTree.{read_id, read_head, other_names, distinct, read_nodes, read_node, read_tree}

@@ -6,7 +6,7 @@ use Rattle.std.proofs.lemmas.List.{append_cancel_left}
 use Rattle.laws.specs.Read.{Got, got, none, Begins, sound, refuses}
 use Rattle.laws.specs.Fill.{done, more, Filled, filled, broken}
 use Rattle.grammar.specs.Extension.{Ext, Framed, framed, extension_header, Allowed, Extension, Extensions, bytes_of}
-use Rattle.grammar.proofs.DecideNumber.{big_endian_length}
+use Rattle.grammar.specs.DecideNumber.{big_endian_length}
 use Rattle.grammar.proofs.DecideExtension.{read_framed, framed_reads, read_extensions, extensions_accepts, extensions_broken}
 use Rattle.grammar.proofs.Unique.{framed_unique}
 use Rattle.grammar.specs.Fault.{Fault, stray, refused, Faulty, stray_bytes, refused_extension}

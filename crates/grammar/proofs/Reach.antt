@@ -5,8 +5,7 @@ use Rattle.std.proofs.Common.{sym, ap, ◌∙◌, subst, append_assoc, append-ni
 use Rattle.laws.specs.Tests.{lt_or_ge}
 use Rattle.grammar.specs.Tree.{Tree, tree, Subtrees, childless, beside, depth, deepest, nodes, nodes_of, Head, Node, node, Nodes, no_node, one_node_lem}
 use Rattle.grammar.specs.Walk.{Reaches}
-use Rattle.grammar.specs.Descent.{Comes, here, below, ComesAmong, in_this, past}
-use Rattle.grammar.proofs.Descent.{some_left, reached_exactly_by_a_way}
+use Rattle.grammar.specs.Descent.{Comes, here, below, ComesAmong, in_this, past, some_left, reached_exactly_by_a_way}
 use Rattle.grammar.proofs.Unique.{head_unique, node_unique}
 
 -- ---- within a tree that is spelled

@@ -10,7 +10,7 @@ use Rattle.grammar.specs.Entry.{Before, Entry, Entries}
 use Rattle.grammar.specs.Extension.{Ext, Framed, Extension, Extensions}
 use Rattle.grammar.specs.Tree.{depth, NodeHead, Node}
 use Rattle.grammar.specs.File.{Index, File}
-use Rattle.grammar.proofs.DecideNumber.{variable_reads, Whole, means, nothing_said}
+use Rattle.grammar.specs.DecideNumber.{variable_reads, Whole, means, nothing_said}
 use Rattle.grammar.proofs.DecideEntry.{entry_reads, entries_reads}
 use Rattle.grammar.proofs.DecideExtension.{framed_reads, extension_reads, extension_some}
 use Rattle.grammar.proofs.DecideTree.{head_reads, node_reads}

@@ -6,10 +6,9 @@ use Rattle.laws.specs.Order.{compared}
 use Rattle.grammar.specs.Number.{covers, invalid}
 use Rattle.grammar.specs.Tree.{Tree, tree, childless, NodeHead, Node}
 use Rattle.grammar.specs.Walk.{Reaches}
-use Rattle.grammar.specs.Descent.{here, below, in_this, past}
-use Rattle.grammar.proofs.Descent.{reached_exactly_by_a_way}
+use Rattle.grammar.specs.Descent.{here, below, in_this, past, reached_exactly_by_a_way}
 use Rattle.grammar.proofs.Reach.{reaches_each_depth, depth_within, nodes_within}
-use Rattle.grammar.proofs.DecideNumber.{decided, read_bytes, read_until, more_digits, read_digits, read_unsigned, read_signed}
+use Rattle.grammar.specs.DecideNumber.{decided, read_bytes, read_until, more_digits, read_digits, read_unsigned, read_signed}
 use Rattle.grammar.proofs.DecideExtension.{same_list}
 use Rattle.grammar.proofs.DecideTree.{read_id, read_head, head_reads, other_names, distinct, read_nodes, read_node, read_tree, tree_decided}
 use Rattle.grammar.proofs.Examples.{two_nodes, two_nodes_at}
