@@ -3,56 +3,66 @@ use mathlib.Core.Path.{◌≡◌, refl, sym, ap, subst, ◌∙◌}
 use mathlib.Core.Bool.{Bool, true, false}
 use mathlib.Core.List.{List, [], ◌∷◌}
 use mathlib.Core.Logic.{⊎_elim}
-use Prim.Native.Nat.{ℕ, zero, suc, ◌+◌, ◌-◌, ◌*◌, ◌/◌, ◌^◌, ◌≤◌, ◌<◌}
+use Prim.Native.Nat.{min, ℕ, zero, suc, ◌+◌, ◌-◌, ◌*◌, ◌/◌, ◌^◌, ◌≤◌, ◌<◌}
 use native.Mathlib.Nat.{add-zero, sub-zero, mul-le-mul_right}
 use native.Mathlib.Numerals.{one-add}
 use native.Mathlib.Omega.{arith}
 use lib.ListN.{length, get_or, drop, length-drop, drop_of_length-le}
-use lib.Dec.{eqb}
+use lib.Dec.{eqb, ltb}
 use lib.Seq.{get_or-drop}
-use borrow.Author.Tests.{lt-ltb, le-ltb, eq-eqb, ne_eqb}
+use denote.Bor.{Bor}
+use borrow.Author.Tests.{ltb-true, ltb-false, lt-ltb, le-ltb, eq-eqb, ne_eqb}
 use Rattle.laws.specs.Pick.{pick}
-use Rattle.laws.specs.Tests.{Same, same, differs, same?, tri}
+use Rattle.laws.specs.Tests.{Same, same, differs, same?, tri, lt_or_ge}
 use Rattle.laws.specs.Lists.{drop-next}
 use Rattle.laws.specs.Order.{below, compared, compared_lt, compared_gt, compared_eq, flip, compared_flip}
 use Rattle.wire.specs.BigEndian.{be_at, be_join, be_small, bytes_same}
 use Rattle.entry.specs.Paths.{Paths}
-use Rattle.entry.specs.Record.{records_in, stage_at, lies_inside, path_at}
-use Rattle.access.specs.Order.{order_of, stage_order, then_by, placed, agreeing, Passed, EightsOf, differ_at, agree_to}
-use Rattle.access.specs.Verify.{is_less, follows_at, verify_from, verify_at}
-use Rattle.access.specs.Lookup.{probe_at, turn, halve, search_at, lookup_at}
+use Rattle.entry.specs.Record.{records_in, lies_inside}
+use Rattle.access.specs.Order.{order_of, stage_order, then_by, agreeing, Passed, EightsOf, differ_at, agree_to}
+use Rattle.access.specs.Verify.{is_less, follows_at, verify_from}
+use Rattle.access.specs.Lookup.{probe_at, turn, halve, search_at}
 use Rattle.access.specs.declared.order.Eights.{Eights}
 use Rattle.access.specs.declared.order.Eights.TheVariants.{DifferAt, AgreeTo}
-use Rattle.access.specs.declared.order.Order.{Order}
-use Rattle.access.specs.declared.order.Order.TheVariants.{Less, Equal, Greater}
-use Rattle.access.specs.declared.verify.Verified.{Verified}
-use Rattle.access.specs.declared.verify.Verified.TheVariants.{Sorted, NotAfter}
-use Rattle.access.specs.declared.verify.Verified.TheVariants as verified
-use Rattle.access.specs.declared.Probe.{Probe}
-use Rattle.access.specs.declared.Probe.TheVariants.{Is, Outside}
+use Rattle.std.specs.Option.{is_some, IfSome, option_cmp}
+use Rattle.std.proofs.lemmas.List.{get_or_default}
+use Rattle.std.specs.Ordering.{ordering_then, nat_cmp, is_lt}
+use Rattle.std.proofs.lemmas.Bool.Decides.{nat_tests}
+use Rattle.std.specs.Prelude.{Err, None, Ok, Option, Result, Some, ⊤}
+use Rattle.access.specs.declared.Error.{Error as LookupError}
+use Rattle.access.specs.declared.Error.TheVariants.{PathOutside}
 use Rattle.access.specs.declared.Found.{Found}
-use Rattle.access.specs.declared.Found.TheVariants.{At, Absent, NoStage, PathOutside}
+use Rattle.access.specs.declared.Found.TheVariants.{Absent, At}
+use Rattle.access.specs.declared.verify.Error.{Error as VerifyError}
+use Rattle.std.specs.declared.cmp.Ordering.{Ordering}
+use Rattle.std.specs.declared.cmp.Ordering.TheVariants.{Equal, Greater, Less}
 
 -- ---- the leading bytes that agree: k are found, and what is left answers r
 
-module _ (a b : List ℕ) (k r : ℕ) (inv : k + agreeing (drop k a) (drop k b) ≡ r) where
-  pub agree_first : length a ≤ k → k ≡ r
+-- past the end of either nothing agrees
+none_agree : (a : List ℕ) → agreeing a [] ≡ 0
+unfolding agreeing
+none_agree [] = refl
+none_agree (x ∷ xs) = refl
+
+pub agree_past : (a b : List ℕ) (k : ℕ) → min (length a) (length b) ≤ k → agreeing (drop k a) (drop k b) ≡ 0
+unfolding agreeing
+agree_past a b k h = ⊎_elim first second (lt_or_ge (length a) (length b))
+  where
+    first : length a < length b → agreeing (drop k a) (drop k b) ≡ 0
+    first l = let e : drop k a ≡ [] = drop_of_length-le a {i = k} (omega arith) in rw e
+
+    second : length b ≤ length a → agreeing (drop k a) (drop k b) ≡ 0
+    second l = let e : drop k b ≡ [] = drop_of_length-le b {i = k} (omega arith) in rw e (none_agree (drop k a))
+
+module _ (a b : List ℕ) (k r : ℕ) (inv : k + agreeing (drop k a) (drop k b) ≡ r) (h : k < length a) (l : k < length b) where
+  pub agree_part : (get_or a k 0 ≡ get_or b k 0 → ⊥) → k ≡ r
   unfolding agreeing
-  agree_first h = let e : drop k a ≡ [] = drop_of_length-le a {i = k} h in omega (arith, rw e at inv)
+  agree_part e = omega (arith, rw (drop-next a k h, drop-next b k l, ne_eqb (get_or a k 0) (get_or b k 0) e) at inv)
 
-  module _ (h : k < length a) where
-    pub agree_second : length b ≤ k → k ≡ r
-    unfolding agreeing
-    agree_second l = let e : drop k b ≡ [] = drop_of_length-le b {i = k} l in omega (arith, rw (e, drop-next a k h) at inv)
-
-    module _ (l : k < length b) where
-      pub agree_part : (get_or a k 0 ≡ get_or b k 0 → ⊥) → k ≡ r
-      unfolding agreeing
-      agree_part e = omega (arith, rw (drop-next a k h, drop-next b k l, ne_eqb (get_or a k 0) (get_or b k 0) e) at inv)
-
-      pub agree_more : get_or a k 0 ≡ get_or b k 0 → k + 1 + agreeing (drop (k + 1) a) (drop (k + 1) b) ≡ r
-      unfolding agreeing
-      agree_more e = omega (arith, rw (drop-next a k h, drop-next b k l, eq-eqb (get_or a k 0) (get_or b k 0) e) at inv)
+  pub agree_more : get_or a k 0 ≡ get_or b k 0 → k + 1 + agreeing (drop (k + 1) a) (drop (k + 1) b) ≡ r
+  unfolding agreeing
+  agree_more e = omega (arith, rw (drop-next a k h, drop-next b k l, eq-eqb (get_or a k 0) (get_or b k 0) e) at inv)
 
 -- ---- the same, eight bytes at a time
 
@@ -76,9 +86,6 @@ compare_run (suc w) a b k ha hb e =
     let here : get_or a k 0 ≡ get_or b k 0 = rw (add-zero k) at (e 0 (omega arith)) in
     let ih = compare_run w a b (k + 1) (omega arith) (omega arith) (λ m l. let p : k + 1 + m ≡ k + (m + 1) = omega arith in rw p (e (m + 1) (omega arith))) in
     rw (q, drop-next a k (omega arith), drop-next b k (omega arith), compared_eq (get_or a k 0) (get_or b k 0) (drop (k + 1) a) (drop (k + 1) b) here) ih
-
-pub eights_start : (a b : List ℕ) → Passed a b (0 * 8)
-eights_start a b = record { agrees = omega arith; decides = refl }
 
 -- n eights are in both; j of them have agreed
 module _ (a b : List ℕ) (n j : ℕ) (passed : Passed a b (j * 8)) (la : n * 8 ≤ length a) (lb : n * 8 ≤ length b) where
@@ -127,12 +134,6 @@ module _ (a b : List ℕ) (e : Eights) (k : ℕ) (eights : EightsOf a b e) where
     where
       by : EightsOf a b (DifferAt k) → be_at 8 a k ≡ be_at 8 b k → ⊥
       by (differ_at p la lb d) = d
-
-  pub agree_differ : e ≡ DifferAt k → (r : ℕ) → r ≡ k + agreeing (drop k a) (drop k b) → r ≡ agreeing a b
-  agree_differ q r z = z ∙ (passed_differ q).agrees
-
-  pub agree_rest : e ≡ AgreeTo k → (r : ℕ) → r ≡ k + agreeing (drop k a) (drop k b) → r ≡ agreeing a b
-  agree_rest q r z = z ∙ (passed_agree q).agrees
 
 -- bytes that differ stand as the numbers that they spell, which are less than 256 ^ w apart from their first byte on
 first_byte_lem : (w : ℕ) (a : List ℕ) (k : ℕ) → be_at (suc w) a k ≡ get_or a k 0 * 256 ^ w + be_at w a (k + 1)
@@ -219,6 +220,16 @@ module _ (a b : List ℕ) (k : ℕ) (e : k ≡ agreeing a b) where
           let ne : get_or a k 0 ≡ get_or b k 0 → ⊥ = rw (← e) at (apart a b) h l in
           sym (ap order_of (opened ∙ compared_gt (get_or a k 0) (get_or b k 0) (drop (k + 1) a) (drop (k + 1) b) (not_same (get_or a k 0) (get_or b k 0) m ne)))
 
+-- numbers as `cmp` ranks them, where they differ
+nat_less : (x y : ℕ) → x < y → nat_cmp x y ≡ Less
+nat_less x y h = grind (arith, nat_tests)
+
+nat_more : (x y : ℕ) → y < x → nat_cmp x y ≡ Greater
+nat_more x y h = grind (arith, nat_tests)
+
+rank_by : (x y : ℕ) (o : Ordering) → (x < y → Less ≡ o) → (y ≤ x → Greater ≡ o) → (x ≡ y → ⊥) → nat_cmp x y ≡ o
+rank_by x y o less more apart = ⊎_elim (λ l. nat_less x y l ∙ less l) (⊎_elim (λ e. absurd (apart e)) (λ l. nat_more x y l ∙ more (omega arith))) (tri x y)
+
 -- the same, of what stands behind `from`
 module _ (a b : List ℕ) (from k : ℕ) (e : k ≡ from + agreeing (drop from a) (drop from b)) where
   abbrev rest_a : List ℕ
@@ -251,11 +262,27 @@ module _ (a b : List ℕ) (from k : ℕ) (e : k ≡ from + agreeing (drop from a
         pub from_greater : y ≤ x → Greater ≡ order_of (compared rest_a rest_b)
         from_greater m = compare_greater rest_a rest_b (agreeing rest_a rest_b) refl (omega (arith, length-drop from a)) (omega (arith, length-drop from b)) (omega (arith, byte_a, byte_b))
 
+      -- the first bytes that differ decide, as `cmp` ranks them
+      pub from_ranked : nat_cmp (get_or a k 0) (get_or b k 0) ≡ order_of (compared rest_a rest_b)
+      from_ranked =
+          rank_by (get_or a k 0) (get_or b k 0) (order_of (compared rest_a rest_b)) (from_less (get_or a k 0) (get_or b k 0) refl refl) (from_greater (get_or a k 0) (get_or b k 0) refl refl)
+          (λ q. apart rest_a rest_b (omega (arith, length-drop from a)) (omega (arith, length-drop from b)) (byte_a ∙ q ∙ sym byte_b))
+
+  -- and no byte ranks before any
+  pub gets_ranked : (x y : Option (Bor ℕ)) → is_some x ≡ ltb k (length a) → is_some y ≡ ltb k (length b) → IfSome x (λ v. v.now ≡ get_or a k v.now) → IfSome y (λ v. v.now ≡ get_or b k v.now)
+      → option_cmp (λ v w. nat_cmp v.now w.now) x y ≡ order_of (compared rest_a rest_b)
+  gets_ranked None None p q u v = from_equal (ltb-false k (length a) (sym p)) (ltb-false k (length b) (sym q))
+  gets_ranked None (Some y) p q u v = from_prefix (ltb-false k (length a) (sym p)) (ltb-true k (length b) (sym q))
+  gets_ranked (Some x) None p q u v = from_longer (ltb-true k (length a) (sym p)) (ltb-false k (length b) (sym q))
+  gets_ranked (Some x) (Some y) p q u v =
+      let h : k < length a = ltb-true k (length a) (sym p) in
+      let l : k < length b = ltb-true k (length b) (sym q) in
+      let same_a : x.now ≡ get_or a k 0 = u ∙ get_or_default a k x.now 0 h in
+      let same_b : y.now ≡ get_or b k 0 = v ∙ get_or_default b k y.now 0 l in
+      rw (same_a, same_b) (from_ranked h l)
+
 -- the whole, from what stands behind k
 module _ (a b : List ℕ) (e : Eights) (k : ℕ) (eights : EightsOf a b e) where
-  pub compare_rest : e ≡ AgreeTo k → (r : Order) → r ≡ order_of (compared (drop k a) (drop k b)) → r ≡ order_of (compared a b)
-  compare_rest q r z = z ∙ ap order_of (passed_agree a b e k eights q).decides
-
   module _ (q : e ≡ DifferAt k) (x y : ℕ) (ex : x ≡ be_at 8 a k) (ey : y ≡ be_at 8 b k) (sa : (j : ℕ) → get_or a j 0 < 256) (sb : (j : ℕ) → get_or b j 0 < 256) where
     whole : compared a b ≡ compared (drop k a) (drop k b)
     whole = sym (passed_differ a b e k eights q).decides
@@ -269,123 +296,65 @@ module _ (a b : List ℕ) (e : Eights) (k : ℕ) (eights : EightsOf a b e) where
         let m : y < x = not_same x y h ne in
         sym (ap order_of (whole ∙ compared_flip (drop k b) (drop k a) ∙ ap flip (by_numbers 8 b a k sb sa (room_second a b e k eights q) (room_first a b e k eights q) (omega arith))))
 
--- ---- then the stage
+    pub numbers_ranked : nat_cmp x y ≡ order_of (compared a b)
+    numbers_ranked = rank_by x y (order_of (compared a b)) numbers_less numbers_greater (λ z. eight_apart a b e k eights q (sym ex ∙ z ∙ ey))
 
-module _ (g h : ℕ) where
-  pub stage_below : g < h → Less ≡ stage_order g h
-  stage_below l = sym (rw (lt-ltb g h l))
+-- ---- std's words for the order's
 
-  pub stage_beyond : h ≤ g → h < g → Greater ≡ stage_order g h
-  stage_beyond m l = sym (rw (le-ltb g h m, lt-ltb h g l))
+pub then_is : (o q : Ordering) → ordering_then o q ≡ then_by o q
+then_is Less q = refl
+then_is Equal q = refl
+then_is Greater q = refl
 
-  pub stage_same : h ≤ g → g ≤ h → Equal ≡ stage_order g h
-  stage_same m l = sym (rw (le-ltb g h m, le-ltb h g l))
+pub stages_are : (g h : ℕ) → nat_cmp g h ≡ stage_order g h
+stages_are g h = grind (arith, nat_tests)
 
-module _ (o q : Order) where
-  pub then_less : o ≡ Less → Less ≡ then_by o q
-  then_less e = sym (rw e)
-
-  pub then_greater : o ≡ Greater → Greater ≡ then_by o q
-  then_greater e = sym (rw e)
-
-  pub then_second : o ≡ Equal → q ≡ then_by o q
-  then_second e = sym (rw e)
-
-pub placed_is : (a b : List ℕ) (g h : ℕ) (by st o : Order) → by ≡ order_of (compared a b) → st ≡ stage_order g h → o ≡ then_by by st → o ≡ placed a g b h
-placed_is a b g h by st o eby est eo = eo ∙ rw (eby, est)
+pub less_is : (o : Ordering) → is_lt o ≡ is_less o
+less_is Less = refl
+less_is Equal = refl
+less_is Greater = refl
 
 -- ---- the order check: what is left of it, from record i on, answers r
 
-module _ (rs : List ℕ) (ps : Paths) (i : ℕ) where
-  pub follows_first : i ≡ 0 → true ≡ follows_at rs ps i
-  unfolding follows_at
-  follows_first e = sym (rw (eq-eqb i 0 e))
-
-  module _ (e : i ≡ 0 → ⊥) (a b : List ℕ) (g h : ℕ) (o : Order) (ea : a ≡ path_at rs ps (i - 1)) (eb : b ≡ path_at rs ps i) (eg : g ≡ stage_at rs (i - 1)) (eh : h ≡ stage_at rs i) (eo : o ≡ placed a g b h) where
-    follows_by : follows_at rs ps i ≡ is_less o
-    unfolding follows_at
-    follows_by = rw (ne_eqb i 0 e, ← ea, ← eb, ← eg, ← eh, ← eo)
-
-    pub follows_less : o ≡ Less → true ≡ follows_at rs ps i
-    follows_less q = sym (follows_by ∙ ap is_less q)
-
-    pub follows_equal : o ≡ Equal → false ≡ follows_at rs ps i
-    follows_equal q = sym (follows_by ∙ ap is_less q)
-
-    pub follows_greater : o ≡ Greater → false ≡ follows_at rs ps i
-    follows_greater q = sym (follows_by ∙ ap is_less q)
-
-pub verify_start : (rs : List ℕ) (ps : Paths) (n : ℕ) → n ≡ records_in rs → verify_from rs ps (n - 0) 0 ≡ verify_at rs ps
-unfolding verify_at
-verify_start rs ps n e = rw (sub-zero n, e)
-
-module _ (rs : List ℕ) (ps : Paths) (n i : ℕ) (r : Verified) (inv : verify_from rs ps (n - i) i ≡ r) where
-  pub verify_done : n ≤ i → Sorted ≡ r
-  unfolding verify_from
-  verify_done h = let z : n - i ≡ 0 = omega arith in sym (rw z) ∙ inv
-
-  module _ (h : i < n) (t : Bool) (et : t ≡ lies_inside rs ps i) where
-    left : n - i ≡ suc (n - (i + 1))
-    left = omega arith
-
-    pub verify_outside : t ≡ false → verified.PathOutside i ≡ r
-    unfolding verify_from
-    verify_outside q = sym (rw (left, ← et, q)) ∙ inv
-
-    module _ (q : t ≡ true) (u : Bool) (eu : u ≡ follows_at rs ps i) where
-      pub verify_not_after : u ≡ false → NotAfter i ≡ r
-      unfolding verify_from
-      verify_not_after p = sym (rw (left, ← et, q, ← eu, p)) ∙ inv
-
-      pub verify_next : u ≡ true → verify_from rs ps (n - (i + 1)) (i + 1) ≡ r
-      unfolding verify_from
-      verify_next p = sym (rw (left, ← et, q, ← eu, p)) ∙ inv
-
--- ---- one record, as lookup sees it
-
-module _ (rs : List ℕ) (ps : Paths) (key : List ℕ) (stage i : ℕ) (t : Bool) (et : t ≡ lies_inside rs ps i) where
-  pub probe_outside : t ≡ false → Outside ≡ probe_at rs ps key stage i
-  unfolding probe_at
-  probe_outside q = sym (rw (← et, q))
-
-  pub probe_is : t ≡ true → (a : List ℕ) (g : ℕ) (o : Order) → a ≡ path_at rs ps i → g ≡ stage_at rs i → o ≡ placed a g key stage → Is o ≡ probe_at rs ps key stage i
-  unfolding probe_at
-  probe_is q a g o ea eg eo = sym (rw (← et, q, ← ea, ← eg, ← eo))
+pub verify_next : (rs : List ℕ) (ps : Paths) (n i : ℕ) (r : Result ⊤ VerifyError) → verify_from rs ps (n - i) i ≡ r → i < n → (t : Bool) → t ≡ lies_inside rs ps i → t ≡ true
+    → (u : Bool) → u ≡ follows_at rs ps i → u ≡ true → verify_from rs ps (n - (i + 1)) (i + 1) ≡ r
+unfolding verify_from
+verify_next rs ps n i r inv h t et q u eu p = let left : n - i ≡ suc (n - (i + 1)) = omega arith in sym (rw (left, ← et, q, ← eu, p)) ∙ inv
 
 -- ---- halving: what is left of it answers r
 
 -- no record is left
-halve_stop : (p : ℕ → Probe) (f low high k : ℕ) → high ≤ low → halve p f low high k ≡ Absent k
+halve_stop : (p : ℕ → Option Ordering) (f low high k : ℕ) → high ≤ low → halve p f low high k ≡ Ok (Absent k)
 unfolding halve
 halve_stop p zero low high k h = refl
 halve_stop p (suc f) low high k h = rw (le-ltb low high h)
 
 -- one turn. The turns left are n less what has been compared
-halve_turn : (p : ℕ → Probe) (n low high k : ℕ) (a : Probe) {b : Probe} → k < n → low < high → a ≡ p ((low + high) / 2) → a ≡ b
+halve_turn : (p : ℕ → Option Ordering) (n low high k : ℕ) (a : Option Ordering) {b : Option Ordering} → k < n → low < high → a ≡ p ((low + high) / 2) → a ≡ b
     → halve p (n - k) low high k ≡ turn (λ l h. halve p (n - (k + 1)) l h (k + 1)) low high ((low + high) / 2) (k + 1) b
 unfolding halve
 halve_turn p n low high k a h l e q = let f : n - k ≡ suc (n - (k + 1)) = omega arith in rw (f, lt-ltb low high l, ← e, q)
 
-module _ (p : ℕ → Probe) (n low high k : ℕ) (r : Found) (inv : halve p (n - k) low high k ≡ r) where
-  pub found_none : high ≤ low → Absent k ≡ r
+module _ (p : ℕ → Option Ordering) (n low high k : ℕ) (r : Result Found LookupError) (inv : halve p (n - k) low high k ≡ r) where
+  pub found_none : high ≤ low → Ok (Absent k) ≡ r
   found_none h = sym (halve_stop p (n - k) low high k h) ∙ inv
 
-  module _ (w : high - low + k ≤ n) (l : low < high) (a : Probe) (e : a ≡ p ((low + high) / 2)) where
-    pub found_outside : a ≡ Outside → PathOutside ((low + high) / 2) ≡ r
+  module _ (w : high - low + k ≤ n) (l : low < high) (a : Option Ordering) (e : a ≡ p ((low + high) / 2)) where
+    pub found_outside : a ≡ None → Err (PathOutside ((low + high) / 2)) ≡ r
     found_outside q = sym (halve_turn p n low high k a (omega arith) l e q) ∙ inv
 
-    module _ (o : Order) (q : a ≡ Is o) where
-      pub found_at : o ≡ Equal → At ((low + high) / 2) (k + 1) ≡ r
-      found_at z = sym (halve_turn p n low high k a (omega arith) l e (q ∙ ap Is z)) ∙ inv
+    module _ (o : Ordering) (q : a ≡ Some o) where
+      pub found_at : o ≡ Equal → Ok (At ((low + high) / 2) (k + 1)) ≡ r
+      found_at z = sym (halve_turn p n low high k a (omega arith) l e (q ∙ ap Some z)) ∙ inv
 
       pub found_low : o ≡ Less → halve p (n - (k + 1)) ((low + high) / 2 + 1) high (k + 1) ≡ r
-      found_low z = sym (halve_turn p n low high k a (omega arith) l e (q ∙ ap Is z)) ∙ inv
+      found_low z = sym (halve_turn p n low high k a (omega arith) l e (q ∙ ap Some z)) ∙ inv
 
       found_high : o ≡ Greater → halve p (n - (k + 1)) low ((low + high) / 2) (k + 1) ≡ r
-      found_high z = sym (halve_turn p n low high k a (omega arith) l e (q ∙ ap Is z)) ∙ inv
+      found_high z = sym (halve_turn p n low high k a (omega arith) l e (q ∙ ap Some z)) ∙ inv
 
 -- the middle as a number of its own: it is all of `high` that the goal shows
-pub found_up : (p : ℕ → Probe) (n low high k m : ℕ) (r : Found) → halve p (n - k) low high k ≡ r → high - low + k ≤ n → low < high → (a : Probe) → a ≡ p m → m ≡ (low + high) / 2 → (o : Order) → a ≡ Is o → o ≡ Greater
+pub found_up : (p : ℕ → Option Ordering) (n low high k m : ℕ) (r : Result Found LookupError) → halve p (n - k) low high k ≡ r → high - low + k ≤ n → low < high → (a : Option Ordering) → a ≡ p m → m ≡ (low + high) / 2 → (o : Ordering) → a ≡ Some o → o ≡ Greater
     → halve p (n - (k + 1)) low m (k + 1) ≡ r
 found_up p n low high k m r inv w l a e q o y z = rw q (found_high p n low high k r inv w l a (rw q at e) o y z)
 
@@ -393,19 +362,8 @@ pub search_start : (rs : List ℕ) (ps : Paths) (key : List ℕ) (stage n high :
 unfolding search_at
 search_start rs ps key stage n high e h = rw (h, sub-zero n, e)
 
-module _ (rs : List ℕ) (ps : Paths) (key : List ℕ) (stage : ℕ) where
-  pub lookup_far : 3 < stage → NoStage ≡ lookup_at rs ps key stage
-  unfolding lookup_at
-  lookup_far h = sym (rw (lt-ltb 3 stage h))
+pub ruleset orderings = (then_is, stages_are, less_is)
 
-  pub lookup_near : (r : Found) → r ≡ search_at rs ps key stage → stage < 4 → r ≡ lookup_at rs ps key stage
-  unfolding lookup_at
-  lookup_near r e h = e ∙ sym (rw (le-ltb 3 stage (omega arith)))
+pub ruleset agrees = (agree_past, agree_part, agree_more)
 
-pub ruleset orders = (agree_first, agree_second, agree_part, agree_more, eights_start, eights_done, eights_differ, room_first, room_second, agree_differ, agree_rest, from_equal, from_prefix, from_longer, from_less, from_greater, compare_rest, stage_below, stage_beyond, stage_same, then_less, then_greater, then_second, placed_is)
-
-pub ruleset checks = (follows_first, follows_less, follows_equal, follows_greater, verify_start, verify_done, verify_outside, verify_not_after, verify_next)
-
-pub ruleset halves = (probe_outside, probe_is, found_none, found_outside, found_at, found_low, found_up, search_start, lookup_far, lookup_near)
-
-pub ruleset laws = (orders, checks, halves)
+pub ruleset halves = (found_none, found_outside, found_at, found_low, search_start)

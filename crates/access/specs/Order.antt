@@ -8,26 +8,26 @@ use Rattle.laws.specs.Order.{Before, irreflexive, transitive, Comparison, below,
 use Rattle.wire.specs.BigEndian.{be_at}
 use Rattle.access.specs.declared.order.Eights.{Eights}
 use Rattle.access.specs.declared.order.Eights.TheVariants.{DifferAt, AgreeTo}
-use Rattle.access.specs.declared.order.Order.{Order}
-use Rattle.access.specs.declared.order.Order.TheVariants.{Less, Equal, Greater}
+use Rattle.std.specs.declared.cmp.Ordering.{Ordering}
+use Rattle.std.specs.declared.cmp.Ordering.TheVariants.{Equal, Greater, Less}
 
 -- the code's name for an answer of the walk
-abbrev pub order_of : Comparison → Order
+abbrev pub order_of : Comparison → Ordering
 order_of below = Less
 order_of equal = Equal
 order_of beyond = Greater
 
-abbrev pub stage_order : ℕ → ℕ → Order
+abbrev pub stage_order : ℕ → ℕ → Ordering
 stage_order g h = pick (ltb g h) Less (pick (ltb h g) Greater Equal)
 
 -- the first, and where that is equal the second
-abbrev pub then_by : Order → Order → Order
+abbrev pub then_by : Ordering → Ordering → Ordering
 then_by Less o = Less
 then_by Greater o = Greater
 then_by Equal o = o
 
 -- how a record of path a and stage g stands to one of path b and stage h: where the paths are equal the stages decide
-abbrev pub placed : List ℕ → ℕ → List ℕ → ℕ → Order
+abbrev pub placed : List ℕ → ℕ → List ℕ → ℕ → Ordering
 placed a g b h = then_by (order_of (compared a b)) (stage_order g h)
 
 -- how many leading bytes agree
@@ -69,7 +69,7 @@ precedes_irreflexive p = precedes_apart p refl refl
 
 -- ---- the walk decides the relation
 
-pub data Places (a : List ℕ) (g : ℕ) (b : List ℕ) (h : ℕ) : Order → Type 0 where
+pub data Places (a : List ℕ) (g : ℕ) (b : List ℕ) (h : ℕ) : Ordering → Type 0 where
   is_less_lem : Precedes a g b h → Places a g b h Less
   is_same : a ≡ b → g ≡ h → Places a g b h Equal
   is_greater : Precedes b h a g → Places a g b h Greater

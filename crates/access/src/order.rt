@@ -1,44 +1,26 @@
 // The order of records: by the bytes of the path, unsigned, a prefix first; then by stage.
 ghost use Rattle.std.specs.Prelude.{◌≡◌, ◌+◌, ◌≤◌, length, drop};
 ghost use Rattle.laws.specs.Order.{compared};
-ghost use Rattle.access.specs.Order.{order_of, stage_order, then_by, agreeing, EightsOf};
+ghost use Rattle.access.specs.Order.{order_of, agreeing, EightsOf, stage_order, then_by};
 
-#[derive(Drop)]
-pub enum Order {
-    Less,
-    Equal,
-    Greater,
-}
+use std::cmp::Ordering;
 
 // The first place from `from` on where a and b part, byte by byte.
+#[tactic(auto, using(crate::proofs::Laws::agrees))]
 fn agree_from(a: &[u8], b: &[u8], from: usize) -> usize
     ensures { result ≡ from + agreeing (drop from a.now) (drop from b.now) }
 {
-    let mut k = from;
-    while k < a.len() {
-        if b.len() <= k {
-            return k;
-        }
+    let both = a.len().min(b.len());
+    for k in from..both {
         if a[k] != b[k] {
             return k;
         }
-        k += 1;
     }
-    k
+    both.max(from)
 }
 
-// How many bytes both have.
-fn shorter(a: &[u8], b: &[u8]) -> usize
-    ensures { (result ≤ length a.now) × (result ≤ length b.now) }
-{
-    if a.len() < b.len() {
-        return a.len();
-    }
-    b.len()
-}
-
-// How many leading bytes agree, counted in eights: up to eight that differ, or as far as both have eights.
-#[derive(Drop)]
+// How many leading bytes agree, counted in eights: up to eight that differ, or as far as both have eights. Either has its place, and neither is a failure.
+#[derive(Clone, Copy)]
 enum Eights {
     DifferAt(usize),
     AgreeTo(usize),
@@ -48,90 +30,55 @@ enum Eights {
 fn pass_eights(a: &[u8], b: &[u8]) -> Eights
     ensures { EightsOf a.now b.now result }
 {
-    let n = shorter(a, b) / 8;
-    let mut j: usize = 0;
-    while j < n {
+    let eights = a.len().min(b.len()) / 8;
+    for j in 0..eights {
         let at = j * 8;
-        let x = wire::be64(a, at);
-        let y = wire::be64(b, at);
-        if x != y {
+        if wire::be64(a, at) != wire::be64(b, at) {
             return Eights::DifferAt(at);
         }
-        j += 1;
     }
-    Eights::AgreeTo(n * 8)
+    Eights::AgreeTo(eights * 8)
 }
 
 // How many leading bytes agree.
 pub fn agree(a: &[u8], b: &[u8]) -> usize
     ensures { result ≡ agreeing a.now b.now }
 {
-    let passed = pass_eights(a, b);
-    match passed {
-        Eights::DifferAt(k) => agree_from(a, b, k),
-        Eights::AgreeTo(k) => agree_from(a, b, k),
+    match pass_eights(a, b) {
+        Eights::DifferAt(k) | Eights::AgreeTo(k) => agree_from(a, b, k),
     }
 }
 
-// How what stands behind `from` in path a stands to that in path b: decided by the first byte in which they part.
-fn compare_from(a: &[u8], b: &[u8], from: usize) -> Order
+// How what stands behind `from` in path a stands to that in path b: decided by the first byte in which they part, where no byte comes before any.
+fn compare_from(a: &[u8], b: &[u8], from: usize) -> Ordering
     ensures { result ≡ order_of (compared (drop from a.now) (drop from b.now)) }
 {
     let k = agree_from(a, b, from);
-    if a.len() <= k {
-        if k < b.len() {
-            return Order::Less;
-        }
-        return Order::Equal;
-    }
-    if b.len() <= k {
-        return Order::Greater;
-    }
-    let x = a[k];
-    let y = b[k];
-    if x < y {
-        return Order::Less;
-    }
-    Order::Greater
+    a.get(k).cmp(&b.get(k))
 }
 
 // How path a stands to path b. Eight bytes that differ stand as the numbers that they spell.
-pub fn compare(a: &[u8], b: &[u8]) -> Order
+pub fn compare(a: &[u8], b: &[u8]) -> Ordering
     ensures { result ≡ order_of (compared a.now b.now) }
 {
-    let passed = pass_eights(a, b);
-    match passed {
-        Eights::DifferAt(k) => {
-            let ahead = wire::be64(a, k);
-            let behind = wire::be64(b, k);
-            if ahead < behind {
-                return Order::Less;
-            }
-            Order::Greater
-        }
+    match pass_eights(a, b) {
+        Eights::DifferAt(k) => wire::be64(a, k).cmp(&wire::be64(b, k)),
         Eights::AgreeTo(k) => compare_from(a, b, k),
     }
 }
 
-pub fn compare_stages(a: u32, b: u32) -> Order
+// Of stages: the library's, under the contract of which `compare_stages_settled` speaks.
+#[tactic(auto, using(crate::proofs::Laws::orderings))]
+pub fn compare_stages(a: u32, b: u32) -> Ordering
     ensures { result ≡ stage_order a b }
 {
-    if a < b {
-        return Order::Less;
-    }
-    if b < a {
-        return Order::Greater;
-    }
-    Order::Equal
+    a.cmp(&b)
 }
 
-// The first, and where that is equal the second.
-pub fn then(first: Order, second: Order) -> Order
+// The first, and where that is equal the second: the library's, likewise (`then_settled`).
+#[tactic(auto, using(crate::proofs::Laws::orderings))]
+pub fn then(first: Ordering, second: Ordering) -> Ordering
     ensures { result ≡ then_by first second }
 {
-    match first {
-        Order::Less => Order::Less,
-        Order::Greater => Order::Greater,
-        Order::Equal => second,
-    }
+    first.then(second)
 }

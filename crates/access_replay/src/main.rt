@@ -5,180 +5,111 @@
 
 #![tactic(auto)]
 
-ghost use Rattle.std.specs.Prelude.{◌*◌, ◌<◌, ◌≡◌, length};
+ghost use Rattle.std.specs.Prelude.{length};
+ghost use Rattle.std.specs.Iterator.{at_most};
 
-use access::Found;
-use access::verify::Verified;
+use access::{Found, verify};
+use replay::Cases;
+use std::io::Result;
 
-// The descriptors of standard input and output.
-const STDIN_FILENO: i32 = 0;
+// The most that is read of the list of cases.
+const LIST_ROOM: usize = 262144;
 
-const STDOUT_FILENO: i32 = 1;
+// An entry without its path: every record is made of zeros, but for its stage and its path.
+const ENTRY: [u8; 60] = [0; 60];
 
-// Room for the whole list.
-fn room() -> [u8; 262144]
-    ensures { 262144 ≡ length result }
-{
-    [0; 262144]
+// By how much a stage is shifted in the flags.
+const STAGE: u32 = 4096;
+
+// The byte at a place; a case that is cut short goes on with zeros.
+fn byte_at(case: &[u8], i: usize) -> u8 {
+    case.get(i).copied().unwrap_or(0)
 }
 
-// Room for 256 records.
-fn slots() -> [u8; 24576]
-    ensures { 24576 ≡ length result }
-{
-    [0; 24576]
-}
-
-// The byte at i; 0 past the end.
-fn byte_at(s: &[u8], i: usize) -> u8 {
-    if i < s.len() {
-        return s[i];
-    }
-    0
-}
-
-fn wide(x: u8) -> usize
-    ensures { (result ≡ x) × (result < 256) }
-{
-    x as usize
-}
-
-// Puts the first n records of a case into a table, whose path store is the case itself, and answers where they end.
-fn table(case: &[u8], n: usize, records: &mut [u8]) -> usize
-    requires { n < 256 }
-    ensures { length records.new ≡ length records.old }
-{
-    let zeros = [0u8; 60];
+// Puts a case's records into a table, whose path store is the case itself, and answers where they end.
+fn fill_table(case: &[u8], n: usize, records: &mut [u8]) -> usize {
     let mut at: usize = 2;
-    let mut i: usize = 0;
-    while i < n {
-        let stage = byte_at(case, at) as u32;
-        let len = wide(byte_at(case, at + 1));
-        let start = at + 2;
-        let end = start + len;
-        entry::put_record(&zeros, 0, stage * 4096, start, end, records, i);
+    for i in 0..n {
+        let flags = byte_at(case, at) as u32 * STAGE;
+        let start = at.saturating_add(2);
+        let end = start.saturating_add(byte_at(case, at.saturating_add(1)) as usize);
+        entry::put_record(&ENTRY, 0, flags, start, end, records, i);
         at = end;
-        i += 1;
     }
     at
 }
 
-fn place(text: &[u8], i: usize) {
-    io::write_all(STDOUT_FILENO, text);
-    io::print_decimal(STDOUT_FILENO, i as u64);
+// The lookups that follow in a case `t`, each a stage and a path with its length in a byte before it. One that is cut short ends the case.
+#[derive(Drop)]
+struct Lookups<'a> {
+    rest: &'a [u8],
 }
 
-// The line of a refusal.
-fn show_refused(number: u32, carries: bool, value: usize) {
-    let mut out = [0u8; 64];
-    let size = lines::write_refused(number, carries, value as u64, &mut out);
-    if size <= 64 {
-        io::write_all(STDOUT_FILENO, &out[..size]);
+impl<'a> Iterator for Lookups<'a> {
+    type Item = (u8, &'a [u8]);
+
+    ghost remaining = { λ s. at_most (length s.rest.now) };
+
+    fn next(&mut self) -> Option<(u8, &'a [u8])> {
+        let ([stage, size], rest) = self.rest.split_first_chunk::<2>()?;
+        let (path, rest) = rest.split_at_checked(*size as usize)?;
+        self.rest = rest;
+        Some((*stage, path))
     }
 }
 
-fn show_found(f: Found) {
-    match f {
-        Found::At { index, compared } => {
-            place(b"found ", index);
-            place(b" compared ", compared);
-            io::write_all(STDOUT_FILENO, b"\n");
+fn show_lookup(rt: &impl Print, case: &[u8], records: &[u8], stage: u8, path: &[u8]) -> Result<()> {
+    match access::lookup(records, case, path, stage as u32) {
+        Ok(Found::At { index, compared }) => println!(rt; "found {index} compared {compared}"),
+        Ok(Found::Absent { compared }) => println!(rt; "absent compared {compared}"),
+        Err(access::Error::NoStage) => replay::print_refused(rt, refusal::NO_STAGE, None),
+        Err(access::Error::PathOutside(i)) => replay::print_refused(
+            rt,
+            refusal::PATH_OUTSIDE,
+            Some(i),
+        ),
+    }
+}
+
+fn show_check(rt: &impl Print, case: &[u8], records: &[u8]) -> Result<()> {
+    match verify::verify_entries(records, case) {
+        Ok(()) => println!(rt; "sorted"),
+        Err(verify::Error::PathOutside(i)) => replay::print_refused(
+            rt,
+            refusal::PATH_OUTSIDE,
+            Some(i),
+        ),
+        Err(verify::Error::NotAfter(i)) => replay::print_refused(rt, refusal::NOT_AFTER, Some(i)),
+    }
+}
+
+// The answers to a case whose records, which end at `at`, are in the table.
+fn show_answers(rt: &impl Print, case: &[u8], records: &[u8], at: usize) -> Result<()> {
+    let rest = case.get(at..).unwrap_or(&[]);
+    match byte_at(case, 0) {
+        b'v' => show_check(rt, case, records),
+        b't' => {
+            show_check(rt, case, records)?;
+            for (stage, path) in (Lookups { rest }) {
+                show_lookup(rt, case, records, stage, path)?;
+            }
+            Ok(())
         }
-        Found::Absent { compared } => {
-            place(b"absent compared ", compared);
-            io::write_all(STDOUT_FILENO, b"\n");
+        _ => {
+            let path = rest.get(1..).unwrap_or(&[]);
+            show_lookup(rt, case, records, byte_at(rest, 0), path)
         }
-        Found::NoStage => show_refused(refusal::NO_STAGE, false, 0),
-        Found::PathOutside(i) => show_refused(refusal::PATH_OUTSIDE, true, i),
     }
 }
 
-fn show_verified(v: Verified) {
-    match v {
-        Verified::Sorted => {
-            io::write_all(STDOUT_FILENO, b"sorted\n");
-        }
-        Verified::PathOutside(i) => show_refused(refusal::PATH_OUTSIDE, true, i),
-        Verified::NotAfter(i) => show_refused(refusal::NOT_AFTER, true, i),
+fn main(rt: HostRuntime) -> Result<()> {
+    let list = replay::read_up_to(rt.stdin(), LIST_ROOM, rt.alloc())?;
+    for case in Cases::of(&list) {
+        let n = byte_at(case, 1) as usize;
+        let mut records = vec![in rt.alloc(); 0u8; n * entry::RECORD_SIZE]?;
+        let at = fill_table(case, n, &mut records);
+        // what cannot be printed is left out
+        let _ = show_answers(&rt, case, &records, at);
     }
-}
-
-// The answer to each lookup of a case that stands from `first` on.
-fn ask_each(case: &[u8], records: &[u8], first: usize) {
-    let mut at = first;
-    while at < case.len() {
-        if case.len() - at < 2 {
-            return;
-        }
-        let stage = byte_at(case, at) as u32;
-        let size = wide(byte_at(case, at + 1));
-        let from = at + 2;
-        if case.len() - from < size {
-            return;
-        }
-        let to = from + size;
-        show_found(access::lookup(records, case, &case[from..to], stage));
-        at = to;
-    }
-}
-
-// The answer to a case whose n records, which end at `at`, are in the table.
-fn ask(case: &[u8], records: &[u8], n: usize, at: usize)
-    requires { n < 256 }
-{
-    let size = n * entry::RECORD_SIZE;
-    if records.len() < size {
-        return;
-    }
-    let lent = &records[..size];
-    if byte_at(case, 0) == b'v' {
-        show_verified(access::verify::verify_entries(lent, case));
-        return;
-    }
-    if byte_at(case, 0) == b't' {
-        show_verified(access::verify::verify_entries(lent, case));
-        ask_each(case, lent, at);
-        return;
-    }
-    let stage = byte_at(case, at) as u32;
-    if at < case.len() {
-        let from = at + 1;
-        show_found(access::lookup(lent, case, &case[from..], stage));
-    } else {
-        show_found(access::lookup(lent, case, b"", stage));
-    }
-}
-
-// The answer to one case.
-fn answer(case: &[u8], records: &mut [u8])
-    ensures { length records.new ≡ length records.old }
-{
-    let n = wide(byte_at(case, 1));
-    let at = table(case, n, records);
-    ask(case, records, n, at);
-}
-
-// Each case of the list.
-fn replay(list: &[u8], records: &mut [u8]) {
-    let mut at: usize = 0;
-    while at < list.len() {
-        if list.len() - at < 2 {
-            return;
-        }
-        let size = wire::be16(list, at) as usize;
-        let from = at + 2;
-        if list.len() - from < size {
-            return;
-        }
-        let to = from + size;
-        answer(&list[from..to], records);
-        at = to;
-    }
-}
-
-fn main() {
-    let mut list = room();
-    let n = io::read_full(STDIN_FILENO, &mut list);
-    let mut records = slots();
-    replay(&list[..n], &mut records);
+    Ok(())
 }

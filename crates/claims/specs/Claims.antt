@@ -2,14 +2,12 @@
 -- reader accepts a file exactly if the grammar spells it, and answer and stores are the rendering of the one meaning. With that trailer, that room and a good header, 5 is given exactly when;
 -- each other refusal is given exactly when, and what is read is spelled and rendered, whatever the file and the stores. Assumes that the file is bytes and that no slice has 2^64 bytes or
 -- more, the premise `Slices`.
-use Rattle.std.specs.Prelude.{ℕ, ◌+◌, ◌≤◌, ◌<◌, ◌≡◌, refl, Bool, true, false, List, ◌++◌, ◌↔◌, length, take}
+use Rattle.std.specs.Prelude.{ℕ, ◌+◌, ◌≤◌, ◌<◌, ◌≡◌, refl, Bool, true, false, List, ◌++◌, ◌↔◌, length, take, Err, Ok, Result}
 use Rattle.std.proofs.Common.{sym, ap, ◌∙◌, subst, arith}
 use Rattle.std.proofs.Math.Option.{Option, none, some}
 use Rattle.format.specs.Format.{depth_limit}
 use Rattle.kind.specs.Kind.{Kind}
 use Rattle.file.specs.Read.{Outcome, outcome, read_file}
-use Rattle.file.specs.declared.Answer.{Answer}
-use Rattle.file.specs.declared.Answer.TheVariants as answer
 use Rattle.grammar.specs.Number.{big_endian}
 use Rattle.grammar.specs.Entry.{Meaning, start, Entries}
 use Rattle.grammar.specs.Extension.{Ext, TREE, Extensions, NoneSigned, LastSigned}
@@ -27,6 +25,10 @@ use Rattle.claims_tree.specs.Said.{zeroed, lent, GoesTooDeep, UsesUp, SpellsTree
 use Rattle.claims.specs.Premises.{Slices, GoodTrailer}
 use Rattle.claims.specs.Said.{Opened, holding, holding_all, read_as, AllEntries, WithTree, SaysFile, says_short, says_no_signature, says_other_version, says_bad_trailer, says_not_spelled, says_no_entry_room, says_not_filled, says_mandatory, says_no_TREE, says_tree, says_malformed, says_too_deep, says_no_node_room}
 use Rattle.claims.specs.Reading as reader
+use Rattle.file.specs.declared.Error.TheVariants as answer
+use Rattle.file.specs.Made.{read_with_all}
+use Rattle.file.specs.declared.Error.{Error as FileError}
+use Rattle.file.specs.declared.Reading.{Reading}
 
 -- ---- the answer that renders a meaning
 
@@ -38,12 +40,12 @@ abbrev pub nodes_of : Option Tree → ℕ
 nodes_of (some t) = nodes t
 nodes_of none = 0
 
-abbrev pub answer_of : Index → Answer
-answer_of m = answer.Read m.version m.sparse (has_tree m.tree) (length m.entries) (length (paths_bytes m.entries)) (nodes_of m.tree)
+abbrev pub answer_of : Index → Result Reading FileError
+answer_of m = Ok (read_with_all m.version m.sparse (has_tree m.tree) (length m.entries) (length (paths_bytes m.entries)) (nodes_of m.tree))
 
 -- an answer is Read
-abbrev pub IsRead : Answer → Type 0
-IsRead a = (version : ℕ) × (sparse tree : Bool) × (records paths nodes : ℕ) × (a ≡ answer.Read version sparse tree records paths nodes)
+abbrev pub IsRead : Result Reading FileError → Type 0
+IsRead a = (r : Reading) × (a ≡ Ok r)
 
 module _ (kind : Kind) where
   -- ---- of the file, in the grammar's terms
@@ -99,45 +101,45 @@ module _ (kind : Kind) where
     only = reader.no_second_answer kind s rs ps ns slices
 
     -- what is said of an answer that is given
-    given : {a : Answer} → reading.answer ≡ a → reading ≡ outcome a reading.records reading.paths reading.nodes
+    given : {a : Result Reading FileError} → reading.answer ≡ a → reading ≡ outcome a reading.records reading.paths reading.nodes
     given q = λ i. outcome (q i) reading.records reading.paths reading.nodes
 
-    told : {a : Answer} → reading.answer ≡ a → SaysFile kind s rs ps ns (outcome a reading.records reading.paths reading.nodes)
+    told : {a : Result Reading FileError} → reading.answer ≡ a → SaysFile kind s rs ps ns (outcome a reading.records reading.paths reading.nodes)
     told q = subst (SaysFile kind s rs ps ns) (given q) says
 
     gives : {o : Outcome} → SaysFile kind s rs ps ns o → reading.answer ≡ o.answer
     gives x = ap (λ (o : Outcome). o.answer) (only x)
 
     -- ---- 1 to 4
-    pub refusal_1_exactly : (reading.answer ≡ answer.ShortFile) ↔ (length s < header_length + kind.id)
+    pub refusal_1_exactly : (reading.answer ≡ Err answer.ShortFile) ↔ (length s < header_length + kind.id)
     refusal_1_exactly = ((λ q. to (told q)), (λ h. gives (says_short h)))
       where
-        to : {r p n : List ℕ} → SaysFile kind s rs ps ns (outcome answer.ShortFile r p n) → length s < header_length + kind.id
+        to : {r p n : List ℕ} → SaysFile kind s rs ps ns (outcome (Err answer.ShortFile) r p n) → length s < header_length + kind.id
         to (says_short h) = h
 
-    pub refusal_2_exactly : (reading.answer ≡ answer.NoSignature) ↔ ((header_length + kind.id ≤ length s) × ¬ (take 4 s ≡ DIRC))
+    pub refusal_2_exactly : (reading.answer ≡ Err answer.NoSignature) ↔ ((header_length + kind.id ≤ length s) × ¬ (take 4 s ≡ DIRC))
     refusal_2_exactly = ((λ q. to (told q)), (λ (h, d). gives (says_no_signature h d)))
       where
-        to : {r p n : List ℕ} → SaysFile kind s rs ps ns (outcome answer.NoSignature r p n) → (header_length + kind.id ≤ length s) × ¬ (take 4 s ≡ DIRC)
+        to : {r p n : List ℕ} → SaysFile kind s rs ps ns (outcome (Err answer.NoSignature) r p n) → (header_length + kind.id ≤ length s) × ¬ (take 4 s ≡ DIRC)
         to (says_no_signature h d) = (h, d)
 
-    pub refusal_3_exactly : (v : ℕ) → (reading.answer ≡ answer.OtherVersion v) ↔ ((header_length + kind.id ≤ length s) × (take 4 s ≡ DIRC) × (¬ Supported (version_of s)) × (v ≡ version_of s))
-    refusal_3_exactly v = ((λ q. to (told q)), (λ (h, d, e, f). gives (says_other_version h d e) ∙ ap answer.OtherVersion (sym f)))
+    pub refusal_3_exactly : (v : ℕ) → (reading.answer ≡ Err (answer.OtherVersion v)) ↔ ((header_length + kind.id ≤ length s) × (take 4 s ≡ DIRC) × (¬ Supported (version_of s)) × (v ≡ version_of s))
+    refusal_3_exactly v = ((λ q. to (told q)), (λ (h, d, e, f). gives (says_other_version h d e) ∙ ap (λ (k : ℕ). Err (answer.OtherVersion k)) (sym f)))
       where
-        to : {v : ℕ} {r p n : List ℕ} → SaysFile kind s rs ps ns (outcome (answer.OtherVersion v) r p n) → (header_length + kind.id ≤ length s) × (take 4 s ≡ DIRC) × (¬ Supported (version_of s)) × (v ≡ version_of s)
+        to : {v : ℕ} {r p n : List ℕ} → SaysFile kind s rs ps ns (outcome (Err (answer.OtherVersion v)) r p n) → (header_length + kind.id ≤ length s) × (take 4 s ≡ DIRC) × (¬ Supported (version_of s)) × (v ≡ version_of s)
         to (says_other_version h d e) = (h, d, e, refl)
 
-    pub refusal_4_exactly : (reading.answer ≡ answer.BadTrailer) ↔ (GoodHeader kind.id s × ¬ GoodTrailer kind s)
+    pub refusal_4_exactly : (reading.answer ≡ Err answer.BadTrailer) ↔ (GoodHeader kind.id s × ¬ GoodTrailer kind s)
     refusal_4_exactly = ((λ q. to (told q)), (λ (g, t). gives (says_bad_trailer g t)))
       where
-        to : {r p n : List ℕ} → SaysFile kind s rs ps ns (outcome answer.BadTrailer r p n) → GoodHeader kind.id s × ¬ GoodTrailer kind s
+        to : {r p n : List ℕ} → SaysFile kind s rs ps ns (outcome (Err answer.BadTrailer) r p n) → GoodHeader kind.id s × ¬ GoodTrailer kind s
         to (says_bad_trailer g t) = (g, t)
 
     -- ---- 6, which needs no room
-    pub refusal_6_exactly : (k : ℕ) → (reading.answer ≡ answer.NoEntryRoom k) ↔ (Opened kind s × LacksRoomAt kind.id (version_of s) (space kind.id s) (count_of s) rs ps k)
+    pub refusal_6_exactly : (k : ℕ) → (reading.answer ≡ Err (answer.NoEntryRoom k)) ↔ (Opened kind s × LacksRoomAt kind.id (version_of s) (space kind.id s) (count_of s) rs ps k)
     refusal_6_exactly k = ((λ q. to (told q)), (λ (o, (h, (ms, rest, m, q, (b, i, x), f, y, lacks))). gives (says_no_entry_room o rest q h i x f y lacks)))
       where
-        to : {k : ℕ} {r p n : List ℕ} → SaysFile kind s rs ps ns (outcome (answer.NoEntryRoom k) r p n) → Opened kind s × LacksRoomAt kind.id (version_of s) (space kind.id s) (count_of s) rs ps k
+        to : {k : ℕ} {r p n : List ℕ} → SaysFile kind s rs ps ns (outcome (Err (answer.NoEntryRoom k)) r p n) → Opened kind s × LacksRoomAt kind.id (version_of s) (space kind.id s) (count_of s) rs ps k
         to (says_no_entry_room o {b = b} {ms = ms} {m = m} rest q h i x f y lacks) = (o, (h, (ms, rest, m, q, (b, i, x), f, y, lacks)))
 
     -- ---- 7 to 10, with room for all entries
@@ -146,17 +148,17 @@ module _ (kind : Kind) where
     abbrev pub Behind : (List ℕ → List ℕ → List Meaning → Type 0) → Type 0
     Behind P = (b c : List ℕ) × (ms : List Meaning) × AllEntries kind s rs ps ns b c ms × P b c ms
 
-    pub refusal_7_exactly : (place : ℕ) → (reading.answer ≡ answer.NotFilled place) ↔ (Opened kind s × Behind (λ b c ms. Faulty (header_length + length b) c (stray place)))
+    pub refusal_7_exactly : (place : ℕ) → (reading.answer ≡ Err (answer.NotFilled place)) ↔ (Opened kind s × Behind (λ b c ms. Faulty (header_length + length b) c (stray place)))
     refusal_7_exactly place = ((λ q. to (told q)), (λ (o, (b, c, ms, a, f)). gives (says_not_filled o a f)))
       where
-        to : {place : ℕ} {r p n : List ℕ} → SaysFile kind s rs ps ns (outcome (answer.NotFilled place) r p n) → Opened kind s × Behind (λ b c ms. Faulty (header_length + length b) c (stray place))
+        to : {place : ℕ} {r p n : List ℕ} → SaysFile kind s rs ps ns (outcome (Err (answer.NotFilled place)) r p n) → Opened kind s × Behind (λ b c ms. Faulty (header_length + length b) c (stray place))
         to (says_not_filled o {b = b} {c = c} {ms = ms} a f) = (o, (b, c, ms, a, f))
 
-    pub refusal_8_exactly : (v : ℕ) → (reading.answer ≡ answer.Mandatory v)
+    pub refusal_8_exactly : (v : ℕ) → (reading.answer ≡ Err (answer.Mandatory v))
         ↔ (Opened kind s × Behind (λ b c ms. (signature : List ℕ) × Faulty (header_length + length b) c (refused signature) × (v ≡ big_endian signature)))
-    refusal_8_exactly v = ((λ q. to (told q)), (λ (o, (b, c, ms, a, (signature, f, e))). gives (says_mandatory o a f) ∙ ap answer.Mandatory (sym e)))
+    refusal_8_exactly v = ((λ q. to (told q)), (λ (o, (b, c, ms, a, (signature, f, e))). gives (says_mandatory o a f) ∙ ap (λ (k : ℕ). Err (answer.Mandatory k)) (sym e)))
       where
-        to : {v : ℕ} {r p n : List ℕ} → SaysFile kind s rs ps ns (outcome (answer.Mandatory v) r p n)
+        to : {v : ℕ} {r p n : List ℕ} → SaysFile kind s rs ps ns (outcome (Err (answer.Mandatory v)) r p n)
             → Opened kind s × Behind (λ b c ms. (signature : List ℕ) × Faulty (header_length + length b) c (refused signature) × (v ≡ big_endian signature))
         to (says_mandatory o {b = b} {c = c} {ms = ms} {signature = signature} a f) = (o, (b, c, ms, a, (signature, f, refl)))
 
@@ -164,34 +166,34 @@ module _ (kind : Kind) where
     abbrev pub BehindIsTREE : (ℕ → List ℕ → Type 0) → Type 0
     BehindIsTREE P = (b c : List ℕ) × (ms : List Meaning) × (es : List Ext) × (sparse : Bool) × (place : ℕ) × (body : List ℕ) × WithTree kind s rs ps ns b c ms es sparse place body × P place body
 
-    pub refusal_9_exactly : (reading.answer ≡ answer.TooDeep) ↔ (Opened kind s × BehindIsTREE (λ place body. GoesTooDeep kind.id body depth_limit (lent ns)))
+    pub refusal_9_exactly : (reading.answer ≡ Err answer.TooDeep) ↔ (Opened kind s × BehindIsTREE (λ place body. GoesTooDeep kind.id body depth_limit (lent ns)))
     refusal_9_exactly = ((λ q. to (told q)), (λ (o, (b, c, ms, es, sparse, place, body, w, d)). gives (says_too_deep o w d)))
       where
-        to : {r p n : List ℕ} → SaysFile kind s rs ps ns (outcome answer.TooDeep r p n) → Opened kind s × BehindIsTREE (λ place body. GoesTooDeep kind.id body depth_limit (lent ns))
+        to : {r p n : List ℕ} → SaysFile kind s rs ps ns (outcome (Err answer.TooDeep) r p n) → Opened kind s × BehindIsTREE (λ place body. GoesTooDeep kind.id body depth_limit (lent ns))
         to (says_too_deep o {b = b} {c = c} {ms = ms} {es = es} {sparse = sparse} {place = place} {body = body} w d) = (o, (b, c, ms, es, sparse, place, body, w, d))
 
-    pub refusal_10_exactly : (reading.answer ≡ answer.NoNodeRoom) ↔ (Opened kind s × BehindIsTREE (λ place body. UsesUp kind.id body (lent ns) × ¬ GoesTooDeep kind.id body depth_limit (lent ns)))
+    pub refusal_10_exactly : (reading.answer ≡ Err answer.NoNodeRoom) ↔ (Opened kind s × BehindIsTREE (λ place body. UsesUp kind.id body (lent ns) × ¬ GoesTooDeep kind.id body depth_limit (lent ns)))
     refusal_10_exactly = ((λ q. to (told q)), (λ (o, (b, c, ms, es, sparse, place, body, w, (u, d))). gives (says_no_node_room o w u d)))
       where
-        to : {r p n : List ℕ} → SaysFile kind s rs ps ns (outcome answer.NoNodeRoom r p n) → Opened kind s × BehindIsTREE (λ place body. UsesUp kind.id body (lent ns) × ¬ GoesTooDeep kind.id body depth_limit (lent ns))
+        to : {r p n : List ℕ} → SaysFile kind s rs ps ns (outcome (Err answer.NoNodeRoom) r p n) → Opened kind s × BehindIsTREE (λ place body. UsesUp kind.id body (lent ns) × ¬ GoesTooDeep kind.id body depth_limit (lent ns))
         to (says_no_node_room o {b = b} {c = c} {ms = ms} {es = es} {sparse = sparse} {place = place} {body = body} w u d) = (o, (b, c, ms, es, sparse, place, body, w, (u, d)))
 
     -- ---- 5, with a good header, a good trailer and room for the entries before the first not spelled
     module _ (open_file : Opened kind s) (room : RoomFor kind.id (version_of s) (space kind.id s) (count_of s) rs ps) where
       -- refusal 5 names k exactly when the first k entries can be spelled and the next, still within the header's count, cannot
-      pub refusal_5_exactly : (k : ℕ) → (reading.answer ≡ answer.NotSpelled k) ↔ StopsAt kind.id (version_of s) (space kind.id s) (count_of s) k
+      pub refusal_5_exactly : (k : ℕ) → (reading.answer ≡ Err (answer.NotSpelled k)) ↔ StopsAt kind.id (version_of s) (space kind.id s) (count_of s) k
       refusal_5_exactly k = ((λ q. to (told q)), (λ (h, (ms, rest, (b, i, x), none_left)). gives (says_not_spelled open_file rest h i x (room k ms rest (omega arith) (b, i, x)) none_left)))
         where
-          to : {k : ℕ} {r p n : List ℕ} → SaysFile kind s rs ps ns (outcome (answer.NotSpelled k) r p n) → StopsAt kind.id (version_of s) (space kind.id s) (count_of s) k
+          to : {k : ℕ} {r p n : List ℕ} → SaysFile kind s rs ps ns (outcome (Err (answer.NotSpelled k)) r p n) → StopsAt kind.id (version_of s) (space kind.id s) (count_of s) k
           to (says_not_spelled o {b = b} {ms = ms} rest h i x f none_left) = (h, (ms, rest, (b, i, x), none_left))
 
       -- and then the stores hold the entries before it, and nothing else is touched
-      pub refusal_5_stores : (k : ℕ) (x : StopsAt kind.id (version_of s) (space kind.id s) (count_of s) k) → reading ≡ holding kind s rs ps ns x.1.0 (answer.NotSpelled k)
+      pub refusal_5_stores : (k : ℕ) (x : StopsAt kind.id (version_of s) (space kind.id s) (count_of s) k) → reading ≡ holding kind s rs ps ns x.1.0 (Err (answer.NotSpelled k))
       refusal_5_stores k (h, (ms, rest, (b, i, x), none_left)) = only (says_not_spelled open_file rest h i x (room k ms rest (omega arith) (b, i, x)) none_left)
 
     -- ---- what is read has one meaning, and the reader's answer and all three stores are its rendering
     pub accepted_is_the_one_meaning : IsRead reading.answer → (m : Index) × File kind.id s m × Renders s rs ps ns m reading × ((o : Index) → File kind.id s o → o ≡ m)
-    accepted_is_the_one_meaning (v, a, t, r, p, n, q) =
+    accepted_is_the_one_meaning (r, q) =
         let (m, x, y) = to (told q) in
         (m, x, subst (Renders s rs ps ns m) (sym (given q)) y, (λ o z. one_meaning kind.id s o m z x))
       where
@@ -202,7 +204,7 @@ module _ (kind : Kind) where
           _,
           space_spelled o.header (spells a.joins a.spelled y t z),
           record {
-            answer = ap (λ (k : ℕ). answer.Read (version_of s) sparse (has_tree tree) k (length (paths_bytes ms)) (nodes_of tree)) (sym (spelled_length a.spelled));
+            answer = ap (λ (k : ℕ). Ok (read_with_all (version_of s) sparse (has_tree tree) k (length (paths_bytes ms)) (nodes_of tree))) (sym (spelled_length a.spelled));
             records = refl;
             paths = refl;
             nodes = l;
@@ -212,8 +214,7 @@ module _ (kind : Kind) where
         lying : {b c : List ℕ} {ms : List Meaning} {es : List Ext} {sparse : Bool} {place : ℕ} {body : List ℕ} → WithTree kind s rs ps ns b c ms es sparse place body → LastTREE s place body
         lying {b} {c} {ms} {es} w = record { b = b; c = c; ms = ms; es = es; joins = w.entries.joins; entries = w.entries.spelled; extensions = w.extensions; last = w.last }
 
-        to : {v : ℕ} {sparse tree : Bool} {r p n : ℕ} {rs₁ ps₁ ns₁ : List ℕ} → SaysFile kind s rs ps ns (outcome (answer.Read v sparse tree r p n) rs₁ ps₁ ns₁)
-            → (m : Index) × File kind.id s m × Renders s rs ps ns m (outcome (answer.Read v sparse tree r p n) rs₁ ps₁ ns₁)
+        to : {r : Reading} {rs₁ ps₁ ns₁ : List ℕ} → SaysFile kind s rs ps ns (outcome (Ok r) rs₁ ps₁ ns₁) → (m : Index) × File kind.id s m × Renders s rs ps ns m (outcome (Ok r) rs₁ ps₁ ns₁)
         to (says_no_TREE o {b = b} {c = c} {ms = ms} {es = es} a y t f) =
             rendered o a y t (absent f) (no_TREE_there (record { b = b; c = c; ms = ms; es = es; joins = a.joins; entries = a.spelled; extensions = y; no_last = f }))
         to (says_tree o w x h k) = rendered o w.entries w.extensions w.mark (spelled w.last x) the_tree
@@ -243,11 +244,11 @@ module _ (kind : Kind) where
               go : {tree : Option Tree} → CacheTree kind.id (header_length + length b) es tree → IsRead reading.answer
               go (spelled {place = place} {body = body} {t = v} l n) =
                   let (shallow, lent-enough) = tree_fits_lem place body (lying l) in
-                  (_, _, _, _, _, _, gives (says_tree open_file (within l) n ((depth_within kind.id body place v n depth_limit).0 shallow) ((nodes_within kind.id body place v n (lent ns)).0 lent-enough)))
+                  (_, gives (says_tree open_file (within l) n ((depth_within kind.id body place v n depth_limit).0 shallow) ((nodes_within kind.id body place v n (lent ns)).0 lent-enough)))
               go (malformed {place = place} {body = body} l f) =
                   let (shallow, lent-enough) = tree_fits_lem place body (lying l) in
-                  (_, _, _, _, _, _, gives (says_malformed open_file (within l) (λ (v, n). f v n) (λ (k, h, r). shallow k r) (λ (d, r). lent-enough d r)))
-              go (absent n) = (_, _, _, _, _, _, gives (says_no_TREE open_file all y t n))
+                  (_, gives (says_malformed open_file (within l) (λ (v, n). f v n) (λ (k, h, r). shallow k r) (λ (d, r). lent-enough d r)))
+              go (absent n) = (_, gives (says_no_TREE open_file all y t n))
 
       -- 1: the reader accepts the file exactly if the grammar spells it
       pub accepted_exactly_if_spelled : IsRead reading.answer ↔ ((m : Index) × File kind.id s m)

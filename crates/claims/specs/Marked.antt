@@ -1,36 +1,37 @@
 -- THE MARKED PAGES of 01, the lines with a star under "Marked pages from the file": one statement over one list, in 01's order. A case is what is asked and what 01 says; the definitions
 -- that the contracts cite must answer the same, by computation. Assumes nothing.
-use Rattle.std.specs.Prelude.{ℕ, ◌+◌, ◌-◌, ◌/◌, ◌%◌, false, List, [], ◌∷◌, ◌++◌, map, ◌≡◌, refl, length, take, drop, replicate}
+use Rattle.std.specs.Prelude.{ℕ, ◌+◌, ◌-◌, ◌/◌, ◌%◌, false, List, [], ◌∷◌, ◌++◌, map, ◌≡◌, refl, length, take, drop, replicate, Err, None, Ok, Result, ⊤}
 use Rattle.laws.specs.Order as laws
 use Rattle.slices.specs.Bytes.{same_bytes, nul_in, nul_at}
 use Rattle.wire.specs.BigEndian.{be_at, bytes_of}
 use Rattle.wire.specs.Groups.{groups_in, number_at}
-use Rattle.wire.specs.declared.Number.{Number}
-use Rattle.wire.specs.declared.Number.TheVariants.{Is, Cut, Over}
 use Rattle.format.specs.Format.{depth_limit, id_size}
 use Rattle.kind.specs.Sha1.{sha1_kind}
 use Rattle.entry.specs.Flags.{extended_to_memory}
 use Rattle.entry.specs.Mode.{keep_mode}
 use Rattle.entry.specs.Paths.{Paths}
 use Rattle.entry.specs.Record.{record_of, front_of, rest_of, field_at, lies_inside, path_at}
-use Rattle.measure.specs.declared.Measured.{Measured}
-use Rattle.measure.specs.declared.Measured.TheVariants.{Entry, Short, Fault}
 use Rattle.measure.specs.Entry.{extended_at, head_with, head_at, whole_of, padded_to, padded_at, kept_of, suffixed_at, compressed_at, measure_at}
 use Rattle.decode.specs.Header.{on_version, header_at}
-use Rattle.decode.specs.Entries.{run, least, read_entries}
+use Rattle.decode.specs.Entries.{run, read_entries}
 use Rattle.decode.specs.Bounds.{block_size, min_entry_size, max_entries}
-use Rattle.decode.specs.declared.entries.Extensions.TheVariants.{NotTold}
 use Rattle.extension.specs.Iter.{step_at, run_by, run_at, last_where}
 use Rattle.extension.specs.Decode.{sparse_in, judged, all_at}
 use Rattle.access.specs.Verify.{follows_at, verify_from, verify_at}
-use Rattle.access.specs.declared.verify.Verified.{Verified}
-use Rattle.access.specs.declared.verify.Verified.TheVariants.{Sorted}
 use Rattle.access.specs.Marked.{row, table, paths}
 use Rattle.file.specs.Answer.{number_of}
 use Rattle.file.specs.Trailer.{good_trailer}
 use Rattle.file.specs.Read.{Outcome, outcome, extensions_into, entries_into, read_file}
-use Rattle.file.specs.declared.Answer.{Answer}
-use Rattle.file.specs.declared.Answer.TheVariants.{Read, ShortFile}
+use Rattle.access.specs.declared.verify.Error.{Error as VerifyError}
+use Rattle.file.specs.Made.{read_with_all}
+use Rattle.file.specs.declared.Error.{Error as FileError}
+use Rattle.file.specs.declared.Error.TheVariants.{ShortFile}
+use Rattle.file.specs.declared.Reading.{Reading}
+use Rattle.measure.specs.declared.Measured.{Measured}
+use Rattle.measure.specs.declared.Unspelled.{Unspelled}
+use Rattle.measure.specs.declared.Unspelled.TheVariants.{Fault, Short}
+use Rattle.wire.specs.declared.NumberError.{NumberError}
+use Rattle.wire.specs.declared.NumberError.TheVariants.{Cut, Over}
 
 -- ---- what is asked, and what can be said
 
@@ -62,7 +63,7 @@ pub data Said : Type 0 where
   -- the bits pass, and become these flags of the record
   passes : ℕ → Said
   at_most : ℕ → Said
-  checked : Verified → Said
+  checked : Result ⊤ VerifyError → Said
   refuses : Said
 
 -- ---- the definitions' answers
@@ -76,7 +77,7 @@ lent_paths = replicate 10 9
 abbrev lent_nodes : List ℕ
 lent_nodes = replicate 100 9
 
-abbrev pub untouched : Answer → Outcome
+abbrev pub untouched : Result Reading FileError → Outcome
 untouched a = outcome a lent_records lent_paths lent_nodes
 
 abbrev numbered : Outcome → Said
@@ -100,28 +101,28 @@ abbrev pub bits_bytes : ℕ → List ℕ
 bits_bytes more = fixed 16385 ++ (more / 256 ∷ more % 256 ∷ []) ++ replicate 9 97
 
 -- the measure of the entry that a file of version v is but for its trailer, after a path of so many bytes
-abbrev whole : List ℕ → ℕ → ℕ → Measured
+abbrev whole : List ℕ → ℕ → ℕ → Result Measured Unspelled
 whole s v before = measure_at id_size (s ++ replicate id_size 9) 0 (length s) v false before
 
-abbrev lengths : ℕ → ℕ → Measured → Said
-lengths size n (Entry f k p l x) = entry x.0 (x.0 - size - n)
-lengths size n Short = refuses
-lengths size n Fault = refuses
+abbrev lengths : ℕ → ℕ → Result Measured Unspelled → Said
+lengths size n (Ok m) = entry m.next.0 (m.next.0 - size - n)
+lengths size n (Err Short) = refuses
+lengths size n (Err Fault) = refuses
 
-abbrev value : Number → Said
-value (Is v e) = number v
-value (Cut a) = refuses
-value Over = refuses
+abbrev value : Result (ℕ × ℕ) NumberError → Said
+value (Ok (v, e)) = number v
+value (Err (Cut a)) = refuses
+value (Err Over) = refuses
 
-abbrev path_of : List ℕ → List ℕ → Measured → Said
-path_of s before (Entry f k p l x) = path (take k before ++ take l (drop p.0 s))
-path_of s before Short = refuses
-path_of s before Fault = refuses
+abbrev path_of : List ℕ → List ℕ → Result Measured Unspelled → Said
+path_of s before (Ok m) = path (take m.keep before ++ take m.len (drop m.suffix.0 s))
+path_of s before (Err Short) = refuses
+path_of s before (Err Fault) = refuses
 
-abbrev flags_of : Measured → Said
-flags_of (Entry f k p l x) = passes f
-flags_of Short = refuses
-flags_of Fault = refuses
+abbrev flags_of : Result Measured Unspelled → Said
+flags_of (Ok m) = passes m.flags
+flags_of (Err Short) = refuses
+flags_of (Err Fault) = refuses
 
 pub answer : Asked → Said
 answer (file s) = numbered (read_file sha1_kind depth_limit s lent_records lent_paths lent_nodes)
@@ -130,7 +131,7 @@ answer (wider n field) = lengths 64 n (whole (wider_bytes n field) 3 0)
 answer (groups s) = value (number_at s 0 (length s))
 answer (after before strip suffix) = path_of (stripped_bytes strip suffix) before (whole (stripped_bytes strip suffix) 4 (length before))
 answer (bits more) = flags_of (whole (bits_bytes more) 3 0)
-answer (file_size n) = at_most (max_entries n NotTold 2 id_size)
+answer (file_size n) = at_most (max_entries n None 2 id_size)
 answer (order rs ps) = checked (verify_at rs ps)
 
 -- ---- the pages
@@ -159,8 +160,8 @@ ear = 101 ∷ 97 ∷ 114 ∷ []
 unfoldable pub pages : List Page
 pages =
     -- 31 bytes: 1. "DIRC", version 2, count 0, 20 zeros (32 bytes): read, no entries
-    page (file (replicate 31 0)) (reads 1 (untouched ShortFile))
-    ∷ page (file least_file) (reads 0 (untouched (Read 2 false false 0 0 0)))
+    page (file (replicate 31 0)) (reads 1 (untouched (Err ShortFile)))
+    ∷ page (file least_file) (reads 0 (untouched (Ok (read_with_all 2 false false 0 0 0))))
     -- V3 paths of 1, 2, 9, 10 bytes: entries of 64, 72, 72, 80. With EXTENDED, 7 and 8: 72, 80
     ∷ page (plain 1 1) (entry 64 1)
     ∷ page (plain 2 2) (entry 72 8)
@@ -188,10 +189,10 @@ pages =
     ∷ page (file_size 160) (at_most 2)
     ∷ page (file_size 10) (at_most 0)
     -- "a" stage 0, "a" stage 2, "a.b" stage 0 is sorted
-    ∷ page (order table paths) (checked Sorted)
+    ∷ page (order table paths) (checked (Ok tt))
     ∷ []
 
 -- THE THEOREM
 pub marked_pages : map (λ (p : Page). answer p.asked) pages ≡ map (λ (p : Page). p.said) pages
-unfolding pages page pair pear ear answer table row paths record_of front_of rest_of field_at lies_inside path_at keep_mode laws.compared verify_at verify_from follows_at measure_at head_at head_with extended_at extended_to_memory be_at bytes_of padded_at padded_to whole_of nul_at nul_in compressed_at kept_of suffixed_at number_at groups_in max_entries block_size min_entry_size read_file header_at on_version good_trailer same_bytes entries_into read_entries run least extensions_into all_at run_at run_by step_at judged sparse_in last_where
+unfolding pages page pair pear ear answer table row paths record_of front_of rest_of field_at lies_inside path_at keep_mode laws.compared verify_at verify_from follows_at measure_at head_at head_with extended_at extended_to_memory be_at bytes_of padded_at padded_to whole_of nul_at nul_in compressed_at kept_of suffixed_at number_at groups_in max_entries block_size min_entry_size read_file header_at on_version good_trailer same_bytes entries_into read_entries run extensions_into all_at run_at run_by step_at judged sparse_in last_where
 marked_pages = refl

@@ -1,7 +1,7 @@
 -- THE MARKED PAGES of 01 AGAINST THE GRAMMAR: the list of `Marked`, what is asked and what 01 says, page by page, and the grammar's relations must say the
 -- same; no reader is named. The pages on how many entries a file of some size can have are left out: that bound refuses nothing, and the grammar has no word
 -- for it. Assumes nothing.
-use Rattle.std.specs.Prelude.{ℕ, zero, suc, ◌+◌, ◌≤◌, ◌≡◌, refl, Bool, true, false, List, [], ◌∷◌, length, take, drop, replicate}
+use Rattle.std.specs.Prelude.{ℕ, zero, suc, ◌+◌, ◌≤◌, ◌≡◌, refl, Bool, true, false, List, [], ◌∷◌, length, take, drop, replicate, Err, Ok}
 use Rattle.std.proofs.Common.{sym, ap, ◌∙◌, append-nil, arith, lit≤, take-append-drop, length-take-le}
 use Rattle.std.proofs.Math.Seq.{take-length}
 use Rattle.laws.specs.Pick.{pick}
@@ -10,7 +10,6 @@ use Rattle.format.specs.Format.{id_size}
 use Rattle.entry.specs.Paths.{Paths}
 use Rattle.access.specs.Sorted.{StrictlySorted}
 use Rattle.access.specs.Marked.{page_sorted}
-use Rattle.access.specs.declared.verify.Verified.TheVariants.{Sorted}
 use Rattle.grammar.specs.Number.{VariableWidth}
 use Rattle.grammar.specs.Entry.{Meaning, meaning, kept_mode, Before, start, path as behind, Entry}
 use Rattle.grammar.specs.File.{Index, header_length, File}
@@ -22,8 +21,9 @@ use Rattle.grammar.proofs.Examples as example
 use Rattle.claims.specs.Marked.{Asked, file, plain, wider, groups, after, bits, file_size, order, Said, reads, entry, number, path, passes, checked, refuses, fixed, plain_bytes, wider_bytes, stripped_bytes, bits_bytes, untouched, Page, page, pair, pear, ear, pages}
 use Rattle.file.specs.Read.{Outcome}
 use Rattle.claims_entries.specs.Rendering.{paths_bytes}
-use Rattle.file.specs.declared.Answer.TheVariants.{Read, ShortFile}
 use Rattle.claims.specs.Claims.{answer_of}
+use Rattle.file.specs.Made.{read_with_all}
+use Rattle.file.specs.declared.Error.TheVariants.{ShortFile}
 
 -- ---- what the grammar says of bytes
 
@@ -60,7 +60,7 @@ pub data Spells : Asked → Said → Type 0 where
   kept_bits_lem : {more flags : ℕ} (size : ℕ) (m : Meaning) → BeginsWith 3 start (bits_bytes more) size m → m.flags ≡ flags → Spells (bits more) (passes flags)
   no_bits : {more : ℕ} → BeginsWithNone 3 start (bits_bytes more) → Spells (bits more) refuses
   -- the order is over the accessors, since the grammar asks for none
-  in_order : {rs : List ℕ} {ps : Paths} → StrictlySorted rs ps → Spells (order rs ps) (checked Sorted)
+  in_order : {rs : List ℕ} {ps : Paths} → StrictlySorted rs ps → Spells (order rs ps) (checked (Ok tt))
 
 -- ---- the pages of which the grammar speaks
 
@@ -145,8 +145,8 @@ after_page p q strip suffix e =
 pub marked_pages_are_spelled : EachSpelled (spoken pages)
 unfolding pages page pair pear ear entry_decided paths_bytes
 marked_pages_are_spelled =
-    no_index {s = replicate 31 0} {o = untouched ShortFile} (λ m x. let h : header_length + id_size ≤ 31 = (spelled_has_good_header x).long in omega arith)
-    and one_index {o = untouched (Read 2 false false 0 0 0)} _ example.least_file (λ n x. one_meaning id_size _ n _ x example.least_file) refl
+    no_index {s = replicate 31 0} {o = untouched (Err ShortFile)} (λ m x. let h : header_length + id_size ≤ 31 = (spelled_has_good_header x).long in omega arith)
+    and one_index {o = untouched (Ok (read_with_all 2 false false 0 0 0))} _ example.least_file (λ n x. one_meaning id_size _ n _ x example.least_file) refl
     and plain_page 1 1 64 1 (lit≤ tt) refl refl
     and plain_page 2 2 72 8 (lit≤ tt) refl refl
     and plain_page 9 9 72 1 (lit≤ tt) refl refl

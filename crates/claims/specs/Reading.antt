@@ -1,6 +1,6 @@
 -- THE READER'S ANSWER of a whole file, `read_file`, which its contract cites, is one of which its rule holds, and the only one. Assumes that the file is bytes and that no slice has 2^64
 -- bytes or more, a premise with a name.
-use Rattle.std.specs.Prelude.{ℕ, ◌+◌, ◌-◌, ◌≤◌, ◌≡◌, refl, Bool, true, List, length, take, drop}
+use Rattle.std.specs.Prelude.{ℕ, ◌+◌, ◌-◌, ◌≤◌, ◌≡◌, refl, Bool, true, List, length, take, drop, Ok, Option, Result}
 use Rattle.std.proofs.Common.{sym, ◌∙◌, subst, arith, length-append, length-drop, drop_at, drop-drop, length-take-le}
 use Rattle.std.proofs.Math.Path.{ap}
 use Rattle.std.proofs.Math.Bool.{false}
@@ -9,13 +9,8 @@ use Rattle.format.specs.Format.{depth_limit}
 use Rattle.kind.specs.Kind.{Kind}
 use Rattle.decode.specs.Header.{header_at}
 use Rattle.decode.specs.Entries as ran
-use Rattle.decode.specs.declared.header.Header.{Header as Opening}
 use Rattle.extension.specs.Decode.{all_at}
-use Rattle.extension.specs.declared.iter.Body.{Body}
-use Rattle.extension.specs.declared.decode.Space.{Space}
-use Rattle.extension.specs.declared.decode.Space.TheVariants as of_space
 use Rattle.tree.specs.Tree.{read_tree}
-use Rattle.tree.specs.declared.TreeAnswer.{TreeAnswer}
 use Rattle.file.specs.Trailer.{good_trailer, good_exactly}
 use Rattle.file.specs.Read.{Outcome, grown_into, on_space, extensions_into, with_nodes, after_entries, entries_into, read_file}
 use Rattle.file.specs.declared.Entries.{Entries as Sofar}
@@ -34,6 +29,13 @@ use Rattle.claims_tree.specs.Claims as trees
 use Rattle.claims.specs.Premises.{Slices}
 use Rattle.claims.specs.Header.{says_short, says_no_signature, says_other_version, says_opens, SaysHeader, header_says, one_header}
 use Rattle.claims.specs.Said as said
+use Rattle.decode.specs.declared.header.Error.{Error as HeaderError}
+use Rattle.decode.specs.declared.header.Header.{Header}
+use Rattle.extension.specs.Made.{filled_by}
+use Rattle.extension.specs.declared.decode.Error.{Error as SpaceError}
+use Rattle.extension.specs.declared.decode.Filled.{Filled}
+use Rattle.extension.specs.declared.iter.Body.{Body}
+use Rattle.tree.specs.declared.Error.{Error as TreeError}
 
 module _ (kind : Kind) where
   module _ (s rs ps ns : List ℕ) (slices : Slices s ps ns) where
@@ -45,7 +47,7 @@ module _ (kind : Kind) where
 
     -- ---- header and trailer
 
-    headed : {h : Opening} → SaysHeader kind.id s h → header_at kind.id s ≡ h
+    headed : {h : Result Header HeaderError} → SaysHeader kind.id s h → header_at kind.id s ≡ h
     headed x = one_header (header_says kind.id s slices.bytes) x
 
     untrue : (t : Bool) → (t ≡ true → ⊥) → t ≡ false
@@ -87,24 +89,24 @@ module _ (kind : Kind) where
       inside : end ≤ length s
       inside = omega arith
 
-      all_read : {w : Space} → all_at s next end ≡ w
+      all_read : {w : Result Filled SpaceError} → all_at s next end ≡ w
           → reading ≡ with_nodes (entry.filled rs (records_bytes kind.id 0 ms)) (entry.filled ps (paths_bytes ms)) (on_space kind.id depth_limit s (sofar ms) ns w)
       unfolding extensions_into
       all_read e =
           entries_are o (entry.says_done c a.joins a.spelled a.fits)
-          ∙ ap (λ (v : Space). with_nodes (entry.filled rs (records_bytes kind.id 0 ms)) (entry.filled ps (paths_bytes ms)) (on_space kind.id depth_limit s (sofar ms) ns v)) e
+          ∙ ap (λ (v : Result Filled SpaceError). with_nodes (entry.filled rs (records_bytes kind.id 0 ms)) (entry.filled ps (paths_bytes ms)) (on_space kind.id depth_limit s (sofar ms) ns v)) e
 
       -- ---- the extensions
 
-      all_is : {w : Space} → ext.SaysExtensions next c w → all_at s next end ≡ w
+      all_is : {w : Result Filled SpaceError} → ext.SaysExtensions next c w → all_at s next end ≡ w
       all_is {w} x = extensions.no_second_answer s slices.bytes next end ahead inside (subst (λ (l : List ℕ). ext.SaysExtensions next l w) (sym behind) x)
 
       all_says : ext.SaysExtensions next c (all_at s next end)
       all_says = subst (λ (l : List ℕ). ext.SaysExtensions next l (all_at s next end)) behind (extensions.answer_says s slices.bytes next end ahead inside)
 
       -- where they are spelled, the walk tells the mark and the last TREE's place
-      filled_space : {es : List Ext} {sparse : Bool} {body : Body} → Extensions c es → Tells (Sparse ms es) sparse → ext.SaysBody TREE next es body
-          → (mark : Bool) × (all_at s next end ≡ of_space.Filled mark (record { tree = body })) × (pick mark true (sparse_by false ms) ≡ sparse)
+      filled_space : {es : List Ext} {sparse : Bool} {body : Option Body} → Extensions c es → Tells (Sparse ms es) sparse → ext.SaysBody TREE next es body
+          → (mark : Bool) × (all_at s next end ≡ Ok (filled_by mark (record { tree = body }))) × (pick mark true (sparse_by false ms) ≡ sparse)
       filled_space {es} {sparse} {body} x t l =
           let x' : Extensions (drop next (take end s)) es = subst (λ (z : List ℕ). Extensions z es) (sym behind) x in
           let (mark, bodies, e) = (extensions.filled_exactly_if_spelled s slices.bytes next end ahead inside).1 (es, x') in
@@ -120,7 +122,7 @@ module _ (kind : Kind) where
         pub at_its_place : BodyAt s end place body
         at_its_place = extensions.body_is_the_bytes s slices.bytes next end ahead inside es (subst (λ (z : List ℕ). Extensions z es) (sym behind) x) place body l
 
-        pub tree_is : {p : TreeAnswer × List ℕ} → tree.SaysReadTree kind.id place body depth_limit ns p → read_tree kind.id depth_limit s place (place + length body) ns ≡ p
+        pub tree_is : {p : Result (Option ℕ) TreeError × List ℕ} → tree.SaysReadTree kind.id place body depth_limit ns p → read_tree kind.id depth_limit s place (place + length body) ns ≡ p
         tree_is {p} y =
             trees.no_second_answer kind.id kind.fits depth_limit s place (place + length body) ns (omega (arith, at_its_place.fits)) slices.file slices.nodes
             (subst (λ (z : List ℕ). tree.SaysReadTree kind.id place z depth_limit ns p) (sym at_its_place.is) y)
@@ -132,7 +134,7 @@ module _ (kind : Kind) where
 
     -- the last TREE, read
     tree_read : said.Opened kind s → {b c : List ℕ} {ms : List Meaning} {es : List Ext} {sparse : Bool} {place : ℕ} {body : List ℕ} → (w : said.WithTree kind s rs ps ns b c ms es sparse place body)
-        → {p : TreeAnswer × List ℕ} → tree.SaysReadTree kind.id place body depth_limit ns p
+        → {p : Result (Option ℕ) TreeError × List ℕ} → tree.SaysReadTree kind.id place body depth_limit ns p
         → reading ≡ with_nodes (entry.filled rs (records_bytes kind.id 0 ms)) (entry.filled ps (paths_bytes ms)) (grown_into (record { version = version_of s; sparse = sparse; records = count_of s; used = length (paths_bytes ms) }) p)
     tree_read o {ms = ms} w y =
         let (mark, e, q) = filled_space o w.entries w.extensions w.mark (ext.says_lies w.last) in
@@ -164,18 +166,18 @@ module _ (kind : Kind) where
     Some = (o : Outcome) × said.SaysFile kind s rs ps ns o
 
     some_tree : said.Opened kind s → {b c : List ℕ} {ms : List Meaning} {es : List Ext} {sparse : Bool} {place : ℕ} {body : List ℕ} → said.WithTree kind s rs ps ns b c ms es sparse place body
-        → {p : TreeAnswer × List ℕ} → tree.SaysReadTree kind.id place body depth_limit ns p → Some
+        → {p : Result (Option ℕ) TreeError × List ℕ} → tree.SaysReadTree kind.id place body depth_limit ns p → Some
     some_tree o w (tree.says_tree x h k) = (_, said.says_tree o w x h k)
     some_tree o w (tree.says_too_deep d) = (_, said.says_too_deep o w d)
     some_tree o w (tree.says_no_room f d) = (_, said.says_no_node_room o w f d)
     some_tree o w (tree.says_malformed f d e) = (_, said.says_malformed o w f d e)
 
-    some_extensions : said.Opened kind s → {b c : List ℕ} {ms : List Meaning} → said.AllEntries kind s rs ps ns b c ms → {w : Space} → ext.SaysExtensions (header_length + length b) c w → Some
+    some_extensions : said.Opened kind s → {b c : List ℕ} {ms : List Meaning} → said.AllEntries kind s rs ps ns b c ms → {w : Result Filled SpaceError} → ext.SaysExtensions (header_length + length b) c w → Some
     some_extensions o a (ext.says_not_filled f) = (_, said.says_not_filled o a f)
     some_extensions o a (ext.says_mandatory f) = (_, said.says_mandatory o a f)
     some_extensions o {b = b} {ms = ms} a (ext.says_filled {es = es} {sparse = mark} x m bodies) = by bodies.tree
       where
-        by : {body : Body} → ext.SaysBody TREE (header_length + length b) es body → Some
+        by : {body : Option Body} → ext.SaysBody TREE (header_length + length b) es body → Some
         by (ext.says_missing n) = (_, said.says_no_TREE o a x (ext.either_marks (sparse_tells ms) m) n)
         by (ext.says_lies l) = some_tree o (record { entries = a; extensions = x; mark = ext.either_marks (sparse_tells ms) m; last = l }) (tree_says o a x l)
 
@@ -190,7 +192,7 @@ module _ (kind : Kind) where
         some_entries o (entries.answer_says kind.id kind.fits s slices.bytes (version_of s) header_length end (count_of s) (space_in o) rs ps)
     some_trailer g false e = (_, said.says_bad_trailer g (λ t. let q : good_trailer kind s ≡ true = (good_exactly kind s).1 t in let z : ◌≡◌ {A = ℕ} 0 1 = cc in omega arith))
 
-    some_header : {h : Opening} → SaysHeader kind.id s h → Some
+    some_header : {h : Result Header HeaderError} → SaysHeader kind.id s h → Some
     some_header (says_short h) = (_, said.says_short h)
     some_header (says_no_signature h d) = (_, said.says_no_signature h d)
     some_header (says_other_version h d e) = (_, said.says_other_version h d e)

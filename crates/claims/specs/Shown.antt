@@ -1,7 +1,7 @@
 -- WHAT IS READ IS SHOWN, of a whole file: where the answer is Read, record i of the record store shows entry i of the one meaning of the file through every
 -- accessor, and its path lies in the path store; and where that meaning has a tree, node i of the node store shows node i of it. So do the first records and
 -- nodes alone, as many as the answer tells. Assumes that the file is bytes and that no slice has 2^64 bytes or more, the premise `Slices`.
-use Rattle.std.specs.Prelude.{ℕ, ◌+◌, ◌-◌, ◌*◌, ◌≤◌, ◌≡◌, Bool, List, [], ◌∷◌, length, take, drop}
+use Rattle.std.specs.Prelude.{ℕ, ◌+◌, ◌-◌, ◌*◌, ◌≤◌, ◌≡◌, Bool, List, [], ◌∷◌, length, take, drop, Ok, Some}
 use Rattle.std.proofs.Common.{ap, subst, arith, length-append, length-take-le}
 use Rattle.std.proofs.Math.Option.{Option, none, some}
 use Rattle.format.specs.Format.{depth_limit}
@@ -12,9 +12,7 @@ use Rattle.entry.specs.Record.{records_in}
 use Rattle.node.specs.Head.{minus_one}
 use Rattle.node.specs.Store.{node_size, nodes_in}
 use Rattle.tree.specs.Tree.{read_tree}
-use Rattle.tree.specs.declared.TreeAnswer.TheVariants.{Tree as IsTree}
 use Rattle.file.specs.Read.{Outcome, outcome, read_file}
-use Rattle.file.specs.declared.Answer.TheVariants as answer
 use Rattle.grammar.specs.Entry.{Meaning}
 use Rattle.grammar.specs.Extension.{Ext, TREE, Extensions, LastSigned}
 use Rattle.grammar.specs.Tree.{Tree, depth, nodes, Node}
@@ -35,6 +33,8 @@ use Rattle.claims.specs.Said.{Opened, AllEntries, SaysFile, says_no_TREE, says_t
 use Rattle.claims.specs.Reading as reader
 use Rattle.claims.specs.Claims.{nodes_of, Renders, IsRead, accepted_is_the_one_meaning}
 use Rattle.claims.specs.First.{each_shown_first, tree_shown_first}
+use Rattle.file.specs.Made.{read_with_all}
+use Rattle.file.specs.declared.Reading.{Reading}
 
 no_tree : {A : Type 0} {t : Tree} → ◌≡◌ {A = Option Tree} none (some t) → A
 no_tree e = let z : ◌≡◌ {A = ℕ} 0 1 = cc in absurd (omega arith)
@@ -95,12 +95,12 @@ module _ (kind : Kind) where
           let at = reader.at_its_place kind s rs ps ns slices o a x l in
           let stop : ℕ = place + length body in
           let there : SpaceIn s place stop = record { ahead = omega arith; inside = omega (arith, at.fits) } in
-          let q : read_tree kind.id depth_limit s place stop ns ≡ (IsTree (nodes t), filled ns (tree_bytes t)) = reader.tree_is kind s rs ps ns slices o a x l (tree.says_tree n h k) in
+          let q : read_tree kind.id depth_limit s place stop ns ≡ (Ok (Some (nodes t)), filled ns (tree_bytes t)) = reader.tree_is kind s rs ps ns slices o a x l (tree.says_tree n h k) in
           let (u, y, e, shown) = read_is_shown kind.id kind.fits depth_limit s place stop ns there slices.file slices.nodes (nodes t) (filled ns (tree_bytes t)) q in
           subst (λ (v : Tree). ShowsTree s (filled ns (tree_bytes t)) minus_one 0 v) (tree_unique (subst (λ (z : List ℕ). Node kind.id place z u) at.is y) n) shown
 
     -- what is said where the answer is Read is spelled and shown
-    spelled_and_shown : {v : ℕ} {sparse tree : Bool} {r p n : ℕ} {rs₁ ps₁ ns₁ : List ℕ} → SaysFile kind s rs ps ns (outcome (answer.Read v sparse tree r p n) rs₁ ps₁ ns₁)
+    spelled_and_shown : {r : Reading} {rs₁ ps₁ ns₁ : List ℕ} → SaysFile kind s rs ps ns (outcome (Ok r) rs₁ ps₁ ns₁)
         → (m : Index) × File kind.id s m × ShowsIndex s rs₁ (lying_in ps₁) ns₁ m
     spelled_and_shown (says_no_TREE o a y t f) =
         (_, space_spelled o.header (spells a.joins a.spelled y t (absent f)), none_there o a)
@@ -123,7 +123,7 @@ module _ (kind : Kind) where
     -- ---- THE THEOREM
     pub accepted_is_shown : IsRead reading.answer
         → (m : Index) × File kind.id s m × ((o : Index) → File kind.id s o → o ≡ m) × Renders kind s rs ps ns m reading × ShowsIndex s reading.records (lying_in reading.paths) reading.nodes m
-    accepted_is_shown (v, a, t, r, p, n, q) =
-        let (m, x, y, one) = accepted_is_the_one_meaning kind s rs ps ns slices (v, a, t, r, p, n, q) in
+    accepted_is_shown (r, q) =
+        let (m, x, y, one) = accepted_is_the_one_meaning kind s rs ps ns slices (r, q) in
         let (o, z, shown) = spelled_and_shown (subst (SaysFile kind s rs ps ns) (λ i. outcome (q i) reading.records reading.paths reading.nodes) (reader.answer_says kind s rs ps ns slices)) in
         (m, x, one, y, subst (ShowsIndex s reading.records (lying_in reading.paths) reading.nodes) (one o z) shown)

@@ -1,13 +1,12 @@
 -- THE PREMISE ON THE TREE, of a file that is spelled and has a tree: `TreeFits` says that the tree is no deeper than the limit and has no more nodes than are
 -- lent. With a good trailer and room for the entries, a file whose tree is deeper is refused with 9, and one whose tree has more nodes with 10. Assumes that
 -- the file is bytes and that no slice has 2^64 bytes or more, the premise `Slices`.
-use Rattle.std.specs.Prelude.{ℕ, suc, ◌+◌, ◌≤◌, ◌<◌, ◌≡◌, List, ◌++◌, ◌↔◌, length}
+use Rattle.std.specs.Prelude.{ℕ, suc, ◌+◌, ◌≤◌, ◌<◌, ◌≡◌, List, ◌++◌, ◌↔◌, length, Err}
 use Rattle.std.proofs.Common.{subst, arith}
 use Rattle.std.proofs.Math.Option.{Option, some}
 use Rattle.format.specs.Format.{depth_limit}
 use Rattle.kind.specs.Kind.{Kind}
 use Rattle.file.specs.Read.{read_file}
-use Rattle.file.specs.declared.Answer.TheVariants.{TooDeep, NoNodeRoom}
 use Rattle.grammar.specs.Entry.{Meaning, start, Entries}
 use Rattle.grammar.specs.Extension.{Ext, TREE, Extensions, LastSigned}
 use Rattle.grammar.specs.Tree.{Tree, depth, nodes, Node}
@@ -22,6 +21,7 @@ use Rattle.claims_tree.specs.Said.{lent, KeepsWithinDepth, HasRoom}
 use Rattle.claims.specs.Premises.{Slices, GoodTrailer}
 use Rattle.claims.specs.Said.{Opened, WithTree}
 use Rattle.claims.specs.Claims.{LastTREE, NoTREE, TreeFits, refusal_9_exactly, refusal_10_exactly}
+use Rattle.file.specs.declared.Error.TheVariants.{NoNodeRoom, TooDeep}
 
 module _ (kind : Kind) where
   -- ---- a file has one last TREE, or none
@@ -89,14 +89,14 @@ module _ (kind : Kind) where
             last = w.last;
           }
 
-      pub deeper_is_refused_with_9 : depth_limit < depth t → nodes t ≤ lent ns → (read_file kind depth_limit s rs ps ns).answer ≡ TooDeep
+      pub deeper_is_refused_with_9 : depth_limit < depth t → nodes t ≤ lent ns → (read_file kind depth_limit s rs ps ns).answer ≡ Err TooDeep
       deeper_is_refused_with_9 h k =
           let (place, body, w, n) = its_tree x has in
           let (j, r) = reaches_each_depth kind.id body place t n depth_limit h in
           let few : j ≤ lent ns = omega (arith, (reaches_within kind.id body place t n (suc depth_limit) j r).1) in
           (refusal_9_exactly kind s rs ps ns slices).1 (opened, (w.b, w.c, w.ms, w.es, sparse_of w.ms w.es, place, body, within w, (j, few, r)))
 
-      pub larger_is_refused_with_10 : depth t ≤ depth_limit → lent ns < nodes t → (read_file kind depth_limit s rs ps ns).answer ≡ NoNodeRoom
+      pub larger_is_refused_with_10 : depth t ≤ depth_limit → lent ns < nodes t → (read_file kind depth_limit s rs ps ns).answer ≡ Err NoNodeRoom
       larger_is_refused_with_10 h k =
           let (place, body, w, n) = its_tree x has in
           (refusal_10_exactly kind s rs ps ns slices).1 (

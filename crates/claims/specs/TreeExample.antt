@@ -1,6 +1,6 @@
 -- THE PREMISE ON THE TREE MET, by a file that has a TREE, and missed: the grammar's example of version 2, whose tree has two nodes. With room for two the file
 -- is read, and the node store shows both; with room for one it is refused with 10. Assumes nothing.
-use Rattle.std.specs.Prelude.{ℕ, zero, suc, ◌-◌, ◌*◌, ◌≤◌, ◌≡◌, refl, true, false, List, [], ◌∷◌, ◌++◌, length, replicate}
+use Rattle.std.specs.Prelude.{ℕ, zero, suc, ◌-◌, ◌*◌, ◌≤◌, ◌≡◌, refl, true, false, List, [], ◌∷◌, ◌++◌, length, replicate, Err, Ok}
 use Rattle.std.proofs.Common.{sym, ap, subst, arith, lit≤, lit<}
 use Rattle.std.proofs.Math.Option.{some}
 use Rattle.laws.specs.Times.{read_times, done}
@@ -10,7 +10,6 @@ use Rattle.entry.specs.Layout.{record_size}
 use Rattle.node.specs.Head.{minus_one}
 use Rattle.node.specs.Store.{node_size}
 use Rattle.file.specs.Read.{read_file}
-use Rattle.file.specs.declared.Answer.TheVariants.{Read, NoNodeRoom}
 use Rattle.grammar.specs.Entry.{Meaning, start, Entries}
 use Rattle.grammar.specs.Extension.{TREE}
 use Rattle.grammar.specs.File.{Index, space}
@@ -26,6 +25,8 @@ use Rattle.claims.specs.Premises.{Slices, GoodTrailer, zeros}
 use Rattle.claims.specs.Claims.{TreeFits, stores_are_the_meaning}
 use Rattle.claims.specs.Shown.{accepted_is_shown}
 use Rattle.claims.specs.SpelledTree.{tree_fits_exactly, larger_is_refused_with_10}
+use Rattle.file.specs.Made.{read_with_all}
+use Rattle.file.specs.declared.Error.TheVariants.{NoNodeRoom}
 
 -- one entry, "a", and a root with one node in it
 abbrev with_tree_lem : List ℕ
@@ -71,13 +72,13 @@ room (suc (suc k)) ms rest h x = absurd (omega arith)
 pub two_fit : TreeFits sha1_kind with_tree_lem two_nodes_lem
 two_fit = (tree_fits_exactly sha1_kind with_tree_lem two_nodes_lem its_index (two_nodes_at 84) version_2 refl).1 (lit≤ tt, lit≤ tt)
 
-pub read_with_its_tree : (read_file sha1_kind depth_limit with_tree_lem records paths two_nodes_lem).answer ≡ Read 2 false true 1 1 2
+pub read_with_its_tree : (read_file sha1_kind depth_limit with_tree_lem records paths two_nodes_lem).answer ≡ Ok (read_with_all 2 false true 1 1 2)
 unfolding paths_bytes
 read_with_its_tree = (stores_are_the_meaning sha1_kind with_tree_lem records paths two_nodes_lem (slices two_nodes_lem (lit≤ tt)) good_trailer_lem room two_fit its_index version_2).answer
 
 pub both_are_shown : ShowsTree with_tree_lem (read_file sha1_kind depth_limit with_tree_lem records paths two_nodes_lem).nodes minus_one 0 (two_nodes_at 84)
 both_are_shown =
-    let (m, x, one, y, shown) = accepted_is_shown sha1_kind with_tree_lem records paths two_nodes_lem (slices two_nodes_lem (lit≤ tt)) (_, _, _, _, _, _, read_with_its_tree) in
+    let (m, x, one, y, shown) = accepted_is_shown sha1_kind with_tree_lem records paths two_nodes_lem (slices two_nodes_lem (lit≤ tt)) (_, read_with_its_tree) in
     shown.tree (two_nodes_at 84) (ap (λ (i : Index). i.tree) (sym (one its_index version_2)))
 
 -- ---- with room for one
@@ -85,5 +86,5 @@ both_are_shown =
 pub two_do_not_fit_one : ¬ TreeFits sha1_kind with_tree_lem one_node_lem
 two_do_not_fit_one fits = let (shallow, few) = (tree_fits_exactly sha1_kind with_tree_lem one_node_lem its_index (two_nodes_at 84) version_2 refl).0 fits in omega arith
 
-pub refused_with_10 : (read_file sha1_kind depth_limit with_tree_lem records paths one_node_lem).answer ≡ NoNodeRoom
+pub refused_with_10 : (read_file sha1_kind depth_limit with_tree_lem records paths one_node_lem).answer ≡ Err NoNodeRoom
 refused_with_10 = larger_is_refused_with_10 sha1_kind with_tree_lem one_node_lem its_index (two_nodes_at 84) version_2 refl records paths (slices one_node_lem (lit≤ tt)) good_trailer_lem room (lit≤ tt) (lit< tt)

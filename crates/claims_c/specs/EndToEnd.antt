@@ -2,7 +2,7 @@
 -- like, of `claims_settled`), so each sentence is about the code. A meaning is the grammar's: `File id_size s m` says that the bytes s spell the index m. `values` are the eight numbers,
 -- and `value values k` is `values[k]`; stores with a dash are as the call left them. `Terms` has the other words. Assumes that a file that is read is bytes and that no slice has 2^64 bytes or
 -- more, the premise `Slices`; each other premise stands, with a name, at the sentence that needs it.
-use Rattle.std.specs.Prelude.{ℕ, ◌+◌, ◌^◌, ◌≤◌, ◌<◌, ◌≡◌, refl, true, false, List, [], ◌∷◌, ◌↔◌, ◌⊎◌, length, take, replicate}
+use Rattle.std.specs.Prelude.{ℕ, ◌+◌, ◌^◌, ◌≤◌, ◌<◌, ◌≡◌, refl, true, false, List, [], ◌∷◌, ◌↔◌, ◌⊎◌, length, take, replicate, Result}
 use Rattle.std.proofs.Common.{sym, ap, ◌∙◌, subst, arith}
 use Rattle.std.proofs.Math.Option.{some}
 use Rattle.std.proofs.Math.ListN.{get_elem?}
@@ -18,7 +18,6 @@ use Rattle.node.specs.Store.{nodes_in}
 use Rattle.access.specs.Lookup.{highest_stage}
 use Rattle.file.specs.Answer.{number_of, carried_of}
 use Rattle.file.specs.Read.{outcome}
-use Rattle.file.specs.declared.Answer.{Answer}
 use Rattle.write.specs.declared.Options.{Options}
 use Rattle.write_entries.specs.Entries.{is_gone}
 use Rattle.grammar.specs.Number.{big_endian}
@@ -49,12 +48,14 @@ use Rattle.sparrowpivot.specs.Told.{eight}
 use Rattle.sparrowpivot.specs.Writing.{options_from}
 use Rattle.claims_settled.specs.Exports.{ReadCall, WriteCall, LookupCall, CheckOrderCall, RecordCall, record_tells, RecordStatCall, record_stat_tells, RecordIdCall, record_id_tells, NodeCall, node_tells, NodeIdCall, node_id_tells}
 use Rattle.claims_c.specs.Terms.{value, records_told, nodes_told, Stands, stage_of, EntryIs, InOrder, FirstNotAfter, EntryHas, Row, rows, RowIs, parent_word, id_told}
-use Rattle.claims_c.specs.Numbers.{reading, number_told, values_told, left, code_small, zero_is_read, read_is_zero, by_number, by_number_and_value, one_value_told, nothing_told}
+use Rattle.claims_c.specs.Numbers.{reading, tree_told, number_told, values_told, left, code_small, zero_is_read, read_is_zero, by_number, by_number_and_value, one_value_told, nothing_told}
 use Rattle.claims_c.specs.Writing as writing
 use Rattle.claims_c.specs.Rows.{name_stands, node_told, node_id_told, no_node_told}
 use Rattle.claims_c.specs.Tables.{path_stands, record_told, stat_told, no_record_told, no_stat_told, no_id_told, tables_show, records_are, nodes_are, row_told, rows_told}
 use Rattle.claims_c.specs.Searching as searching
 use Rattle.claims_c.specs.ReadBack.{read_back_told, tree_back, record_back, stat_back, id_back, count_back, subtrees_back, parent_back}
+use Rattle.file.specs.declared.Error.{Error as FileError}
+use Rattle.file.specs.declared.Reading.{Reading}
 
 -- ---- 1. WHAT `sparrowpivot_read` RETURNS, AND WHEN
 
@@ -129,7 +130,7 @@ module _ {s rs ps ns values rs' ps' ns' : List ℕ} {code : ℕ} (call : ReadCal
   read_refusal_that_names_nothing_tells_0 = nothing_told call
 
   -- and whatever is returned, numbers and all three stores are those of one rule of 01's table, "When the desk says no", of which none is left out (`SaysFile` of claims)
-  pub read_answers_by_the_table : (a : Answer) × (code ≡ number_of a) × (values ≡ eight (carried_of a)) × SaysFile sha1_kind s rs ps ns (outcome a rs' ps' ns')
+  pub read_answers_by_the_table : (a : Result Reading FileError) × (code ≡ number_of a) × (values ≡ eight (carried_of a)) × SaysFile sha1_kind s rs ps ns (outcome a rs' ps' ns')
   read_answers_by_the_table = ((reading s rs ps ns).answer, number_told call, values_told call, subst (SaysFile sha1_kind s rs ps ns) (left call) (reader.answer_says sha1_kind s rs ps ns slices))
 
   -- ---- 2. WHAT IT TELLS WHERE IT RETURNED 0: the file has exactly one meaning, and the values are that meaning's version, whether it is sparse, whether it has a tree, how many entries, how
@@ -138,7 +139,7 @@ module _ {s rs ps ns values rs' ps' ns' : List ℕ} {code : ℕ} (call : ReadCal
       × (values ≡ m.version ∷ bit m.sparse ∷ bit (has_tree m.tree) ∷ length m.entries ∷ length (paths_bytes m.entries) ∷ nodes_of m.tree ∷ 0 ∷ 0 ∷ [])
   read_tells_the_one_meaning e =
       let (m, x, y, one) = claims.accepted_is_the_one_meaning sha1_kind s rs ps ns slices (zero_is_read call e) in
-      (m, x, one, values_told call ∙ ap (λ (a : Answer). eight (carried_of a)) y.answer)
+      (m, x, one, values_told call ∙ ap (λ (a : Result Reading FileError). eight (carried_of a)) y.answer ∙ tree_told m.version (length m.entries) (length (paths_bytes m.entries)) m.sparse m.tree)
 
 -- ---- AFTER A CALL THAT RETURNED 0, on a file that means m (by the sentence before there is such an m, and no other). A caller lends on the records and nodes that were told, of the stores as
 -- they were left, and the path store.

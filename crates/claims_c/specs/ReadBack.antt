@@ -1,7 +1,7 @@
 -- FROM A CALL OF `sparrowpivot_write` THAT RETURNED 0 TO ONE OF `sparrowpivot_read`: what was written is spelled and read, and each record that was written lies in its store. Assumes that the
 -- file is bytes, that no slice has 2^64 bytes or more, and room, premises with names.
 use Prim.Native.Nat.{ℕ, ◌+◌, ◌^◌, ◌<◌}
-use Rattle.std.specs.Prelude.{◌≡◌, refl, true, take}
+use Rattle.std.specs.Prelude.{◌≡◌, refl, true, take, Ok, Result}
 use Rattle.std.proofs.Math.Path.{sym, ap, subst}
 use Rattle.std.proofs.Common.{◌∙◌}
 use mathlib.Core.List.{List, [], ◌∷◌}
@@ -21,9 +21,6 @@ use Rattle.node.specs.Store.{nodes_in}
 use Rattle.grammar.specs.File.{File}
 use Rattle.file.specs.Answer.{number_of, carried_of}
 use Rattle.file.specs.Read.{Outcome as ReadOutcome, read_file}
-use Rattle.file.specs.declared.Answer.{Answer as Read}
-use Rattle.file.specs.declared.Answer.TheVariants as reading
-use Rattle.write.specs.declared.Answer.TheVariants as answer
 use Rattle.write.specs.declared.Options.{Options}
 use Rattle.write.specs.File.{Outcome, writes_tree, write_all}
 use Rattle.claims.specs.Premises.{Slices}
@@ -41,9 +38,13 @@ use Rattle.sparrowpivot.specs.Writing.{options_from}
 use Rattle.sparrowpivot.specs.Tables.{tell_node}
 use Rattle.claims_settled.specs.Exports.{ReadCall, WriteCall, RecordCall, record_tells, RecordStatCall, record_stat_tells, RecordIdCall, record_id_tells, NodeCall, node_tells}
 use Rattle.claims_c.specs.Terms.{value, records_told, Stands}
-use Rattle.claims_c.specs.Numbers.{number_told, values_told, left}
+use Rattle.claims_c.specs.Numbers.{number_told, values_told, left, asked_told}
 use Rattle.claims_c.specs.Writing.{zero_is_done, output}
 use Rattle.claims_c.specs.Tables.{path_stands, record_told, stat_told, tables_show}
+use Rattle.file.specs.Made.{read_with_all}
+use Rattle.file.specs.declared.Error.{Error as FileError}
+use Rattle.file.specs.declared.Reading.{Reading}
+use Rattle.write.specs.Made.{written_with}
 
 module _ {rs : List ℕ} {ps : Paths} {ns nm out values out' : List ℕ} {options code : ℕ} (wrote : WriteCall rs ps ns nm options out code values out') (returned : code ≡ 0) where
   abbrev asked : Options
@@ -52,7 +53,7 @@ module _ {rs : List ℕ} {ps : Paths} {ns nm out values out' : List ℕ} {option
   abbrev writing : Outcome
   writing = write_all sha1_kind depth_limit rs ps ns nm asked out
 
-  done : writing.answer ≡ answer.Done (value values 0) (value values 1)
+  done : writing.answer ≡ Ok (written_with (value values 0) (value values 1))
   done = zero_is_done wrote returned
 
   same_file : file_in sha1_kind rs ps ns nm asked out (value values 0) (value values 1) done ≡ take (value values 1) out'
@@ -77,8 +78,8 @@ module _ {rs : List ℕ} {ps : Paths} {ns nm out values out' : List ℕ} {option
     slices_w : Slices (file_in sha1_kind rs ps ns nm asked out (value values 0) (value values 1) done) paths' nodes'
     slices_w = subst (λ (b : List ℕ). Slices b paths' nodes') (sym same_file) slices
 
-    abbrev answered : Read
-    answered = reading.Read (value values 0) (index_of sha1_kind rs ps ns nm asked).sparse (writes_tree asked) (length (kept_of rs)) (length (paths_bytes (meanings_of id_size rs ps))) (pick (writes_tree asked) (nodes_in ns) 0)
+    abbrev answered : Result Reading FileError
+    answered = Ok (read_with_all (value values 0) (index_of sha1_kind rs ps ns nm asked).sparse (writes_tree asked) (length (kept_of rs)) (length (paths_bytes (meanings_of id_size rs ps))) (pick (writes_tree asked) (nodes_in ns) 0))
 
     -- it is read
     written_read : (read_file sha1_kind depth_limit (take (value values 1) out') records' paths' nodes').answer ≡ answered
@@ -90,7 +91,11 @@ module _ {rs : List ℕ} {ps : Paths} {ns nm out values out' : List ℕ} {option
     pub read_back_told : {values₁ rs' ps' ns' : List ℕ} {code₁ : ℕ} → ReadCall (take (value values 1) out') records' paths' nodes' code₁ values₁ rs' ps' ns'
         → (code₁ ≡ 0)
         × (values₁ ≡ value values 0 ∷ bit (index_of sha1_kind rs ps ns nm asked).sparse ∷ bit (writes_tree asked) ∷ length (kept_of rs) ∷ length (paths_bytes (meanings_of id_size rs ps)) ∷ pick (writes_tree asked) (nodes_in ns) 0 ∷ 0 ∷ 0 ∷ [])
-    read_back_told call = (number_told call ∙ ap number_of written_read, values_told call ∙ ap (λ (a : Read). eight (carried_of a)) written_read)
+    read_back_told call = (
+      number_told call ∙ ap number_of written_read,
+      values_told call ∙ ap (λ (a : Result Reading FileError). eight (carried_of a)) written_read
+          ∙ asked_told (value values 0) (length (kept_of rs)) (length (paths_bytes (meanings_of id_size rs ps))) (nodes_in ns) (index_of sha1_kind rs ps ns nm asked).sparse (writes_tree asked),
+    )
 
     -- what a record that loses nothing means
     written_mode : WritableTable rs ps → (j i : ℕ) → get_elem? (kept_of rs) j ≡ some i → (meaning_of id_size rs ps i).stat.mode ≡ mode_at rs i

@@ -1,6 +1,6 @@
 -- WHAT IS TOLD OF A TABLE: of a record that shows an entry, that entry field by field; and that what a call of `sparrowpivot_read` left where it returned 0, cut to what it told, shows the file's
 -- one meaning. Assumes that the file is bytes and that no slice has 2^64 bytes or more, the premise `Slices`.
-use Rattle.std.specs.Prelude.{ℕ, ◌+◌, ◌*◌, ◌≤◌, ◌<◌, ◌≡◌, List, [], ◌∷◌, length, take, replicate}
+use Rattle.std.specs.Prelude.{ℕ, ◌+◌, ◌*◌, ◌≤◌, ◌<◌, ◌≡◌, List, [], ◌∷◌, length, take, replicate, Result}
 use Rattle.std.proofs.Common.{sym, ap, ◌∙◌, subst, arith, length-take, lt-ltb, le-ltb}
 use Rattle.std.proofs.Math.Option.{none, some}
 use Rattle.refusal.specs.Bit.{bit}
@@ -14,7 +14,6 @@ use Rattle.node.specs.Store.{node_size, nodes_in}
 use Rattle.access.specs.Sorted.{yes_lies}
 use Rattle.file.specs.Answer.{carried_of}
 use Rattle.file.specs.Read.{Outcome}
-use Rattle.file.specs.declared.Answer.{Answer}
 use Rattle.grammar.specs.Entry.{Meaning}
 use Rattle.grammar.specs.Tree.{Tree}
 use Rattle.grammar.specs.File.{Index, File}
@@ -27,8 +26,10 @@ use Rattle.sparrowpivot.specs.Told.{Told, told, eight}
 use Rattle.sparrowpivot.specs.Tables.{tell_record, tell_stat}
 use Rattle.claims_settled.specs.Exports.{ReadCall}
 use Rattle.claims_c.specs.Terms.{value, records_told, nodes_told, Stands, stage_of, Row, rows, RowIs}
-use Rattle.claims_c.specs.Numbers.{values_told, left, zero_is_read}
+use Rattle.claims_c.specs.Numbers.{values_told, left, zero_is_read, tree_told}
 use Rattle.claims_c.specs.Rows.{row_within, rows_many, rows_shown, ShowsRow, SpelledRow, row_spelled}
+use Rattle.file.specs.declared.Error.{Error as FileError}
+use Rattle.file.specs.declared.Reading.{Reading}
 
 -- ---- one record
 
@@ -88,7 +89,7 @@ module _ {s rs ps ns values rs' ps' ns' : List ℕ} {code : ℕ} (call : ReadCal
   meaning_told =
       let (o, x, y, one) = accepted_is_the_one_meaning sha1_kind s rs ps ns slices (zero_is_read call returned) in
       let same : o ≡ m = sym (one m means) in
-      values_told call ∙ ap (λ (a : Answer). eight (carried_of a)) y.answer
+      values_told call ∙ ap (λ (a : Result Reading FileError). eight (carried_of a)) y.answer ∙ tree_told o.version (length o.entries) (length (paths_bytes o.entries)) o.sparse o.tree
       ∙ ap (λ (m : Index). m.version ∷ bit m.sparse ∷ bit (has_tree m.tree) ∷ length m.entries ∷ length (paths_bytes m.entries) ∷ nodes_of m.tree ∷ 0 ∷ 0 ∷ []) same
 
   -- the tables that a caller lends on show it

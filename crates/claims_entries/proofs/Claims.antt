@@ -2,8 +2,8 @@
 -- answer; the reading gives an answer of which its rule holds, and the only one. With room for all entries that come before the first not spelled, it is Done exactly if all
 -- are spelled. Assumes that a record has room for an id, that the file is bytes and that the entries' space lies in it, each a premise with a name.
 use Prim.Native.Nat.{ℕ, suc, ◌+◌, ◌-◌, ◌*◌, ◌≤◌, ◌<◌}
-use Rattle.std.specs.Prelude.{◌≡◌, refl, Bool, ◌↔◌, take}
-use Rattle.std.proofs.Common.{sym, ◌∙◌, subst, ⊎_elim, zero-add, length-append, length-drop, take_all, le-ltb}
+use Rattle.std.specs.Prelude.{◌≡◌, refl, Bool, ◌↔◌, take, Err, Ok, Result}
+use Rattle.std.proofs.Common.{sym, ◌∙◌, subst, ⊎_elim, zero-add, length-append, length-drop, take_all}
 use Rattle.std.proofs.Math.Path.{ap}
 use mathlib.Core.List.{List, [], ◌∷◌, ◌++◌, append_assoc, append-nil, append_cancel_left}
 use Rattle.std.proofs.Math.Bool.{true, false}
@@ -16,16 +16,19 @@ use Rattle.wire.specs.Places.{file_at, path_at}
 use Rattle.wire.specs.declared.FileAt.{FileAt}
 use Rattle.wire.specs.declared.PathAt.{PathAt}
 use Rattle.format.specs.Format.{id_room}
-use Rattle.decode.specs.Entries.{Outcome, run, least, read_entries}
-use Rattle.decode.specs.declared.entries.Answer.{Answer}
-use Rattle.decode.specs.declared.entries.Answer.TheVariants.{Done, NotSpelled, NoRoom}
+use Rattle.decode.specs.Entries.{Outcome, run}
+use Rattle.decode.specs.Stores.{read_is_run}
 use Rattle.grammar.specs.Entry.{Meaning, start, Entry, Entries}
 use Rattle.claims_entries.specs.Place.{Lies, lies_from, lies_to}
 use Rattle.claims_entries.specs.Measure.{refused_exactly_if_not_spelled}
 use Rattle.claims_entries.specs.Rendering.{records_bytes, paths_bytes, sparse_by, Bytes}
-use Rattle.claims_entries.specs.Said.{entries_space, SpaceIn, reading_of, filled, after, holding, done_by, Fits, SaysRead, says_done, says_not_spelled, says_no_room, IsDone, AllSpelled, StopsAt, RoomFor, LacksRoomAt}
+use Rattle.claims_entries.specs.Said.{entries_space, SpaceIn, nothing_before, reading_of, filled, after, holding, done_by, Fits, SaysRead, says_done, says_not_spelled, says_no_room, IsDone, AllSpelled, StopsAt, RoomFor, LacksRoomAt}
 use Rattle.claims_entries.specs.Reach.{Reach, whole, part, full, reach}
 use Rattle.claims_entries.proofs.Run.{Stands, none_yet, knows, first_after, run_steps, run_full, run_refused}
+use Rattle.decode.specs.Made.{done_at}
+use Rattle.decode.specs.declared.entries.Done.{Done}
+use Rattle.decode.specs.declared.entries.Error.{Error as EntriesError}
+use Rattle.decode.specs.declared.entries.Error.TheVariants.{NoRoom, NotSpelled}
 
 paths_snoc : (ms : List Meaning) (m : Meaning) → length (paths_bytes (ms ++ (m ∷ []))) ≡ length (paths_bytes ms) + length m.path
 unfolding paths_bytes
@@ -38,8 +41,7 @@ filled_is d x n e = (λ i. take_all n x (omega arith) i ++ drop (zero-add n i) d
 -- with nothing before it
 reading_runs : (n : ℕ) (file : List ℕ) (version from end count : ℕ) (rs ps : List ℕ)
     → reading_of n file version from end count rs ps ≡ run n file (file_at end) version count 0 (file_at from) (path_at 0) true 0 false rs ps
-unfolding read_entries least
-reading_runs n file version from end count rs ps = rw (le-ltb (length ps) 0 (omega arith))
+reading_runs n file version from end count rs ps = read_is_run n file (file_at end) version count 0 (file_at from) nothing_before rs ps (omega arith) (omega arith)
 
 module _ (id : ℕ) (fits : id ≤ id_room) (file : List ℕ) (bytes : Bytes file) (version from end count : ℕ) (lies_in : SpaceIn file from end) (rs ps : List ℕ) where
   inside : end ≤ length file
@@ -144,11 +146,11 @@ module _ (id : ℕ) (fits : id ≤ id_room) (file : List ℕ) (bytes : Bytes fil
   stores_are_the_meaning room ms rest (b, i, x) = no_second_answer (says_done rest i x (room count ms rest (omega arith) (b, i, x)))
 
   -- and Done says all of it, with no premise of room
-  pub done_is_the_meaning : (next : FileAt) (used : PathAt) (sparse : Bool) → reading.answer ≡ Done next used sparse
+  pub done_is_the_meaning : (next : FileAt) (used : PathAt) (sparse : Bool) → reading.answer ≡ Ok (done_at next used sparse)
       → (ms : List Meaning) × (rest : List ℕ) × (x : Begins (Entries id version start count) space ms rest) × (reading ≡ holding id rs ps ms (done_by from x.0 ms))
   done_is_the_meaning next used sparse q = to answer_says refl q
     where
-      to : {o : Outcome} → SaysRead id version from space count rs ps o → reading ≡ o → o.answer ≡ Done next used sparse
+      to : {o : Outcome} → SaysRead id version from space count rs ps o → reading ≡ o → o.answer ≡ Ok (done_at next used sparse)
           → (ms : List Meaning) × (rest : List ℕ) × (x : Begins (Entries id version start count) space ms rest) × (reading ≡ holding id rs ps ms (done_by from x.0 ms))
       to (says_done {b = b} {ms = ms} rest i x f) e q = (ms, rest, (b, i, x), e)
       to (says_not_spelled rest h i x f none) e q = let z : ◌≡◌ {A = ℕ} 0 1 = cc in absurd (omega arith)
@@ -159,44 +161,44 @@ module _ (id : ℕ) (fits : id ≤ id_room) (file : List ℕ) (bytes : Bytes fil
       ((λ (next, used, sparse, q). let (ms, rest, x, e) = done_is_the_meaning next used sparse q in (ms, rest, x)), (λ (ms, rest, x). (_, _, _, ap (λ (o : Outcome). o.answer) (stores_are_the_meaning room ms rest x))))
 
   -- refusal 5
-  pub not_spelled_exactly : RoomFor id version space count rs ps → (k : ℕ) → (reading.answer ≡ NotSpelled k) ↔ StopsAt id version space count k
+  pub not_spelled_exactly : RoomFor id version space count rs ps → (k : ℕ) → (reading.answer ≡ Err (NotSpelled k)) ↔ StopsAt id version space count k
   not_spelled_exactly room k = (to answer_says, of)
     where
-      to : {o : Outcome} → SaysRead id version from space count rs ps o → o.answer ≡ NotSpelled k → StopsAt id version space count k
+      to : {o : Outcome} → SaysRead id version from space count rs ps o → o.answer ≡ Err (NotSpelled k) → StopsAt id version space count k
       to (says_done rest i x f) q = let z : ◌≡◌ {A = ℕ} 0 1 = cc in absurd (omega arith)
       to (says_not_spelled {k = j} {b = b} {ms = ms} rest h i x f none) q =
           let e : j ≡ k = cc in
           subst (StopsAt id version space count) e (h, (ms, rest, (b, i, x), none))
       to (says_no_room rest r h i x f y lacks) q = let z : ◌≡◌ {A = ℕ} 0 1 = cc in absurd (omega arith)
 
-      of : StopsAt id version space count k → reading.answer ≡ NotSpelled k
+      of : StopsAt id version space count k → reading.answer ≡ Err (NotSpelled k)
       of (h, (ms, rest, (b, i, x), none)) = ap (λ (o : Outcome). o.answer) (no_second_answer (says_not_spelled rest h i x (room k ms rest (omega arith) (b, i, x)) none))
 
   -- entries before the one refused are stored, and nothing else
-  pub refused_stores_are_the_meaning : RoomFor id version space count rs ps → (k : ℕ) (x : StopsAt id version space count k) → reading ≡ holding id rs ps x.1.0 (NotSpelled k)
+  pub refused_stores_are_the_meaning : RoomFor id version space count rs ps → (k : ℕ) (x : StopsAt id version space count k) → reading ≡ holding id rs ps x.1.0 (Err (NotSpelled k))
   refused_stores_are_the_meaning room k (h, (ms, rest, (b, i, x), none)) = no_second_answer (says_not_spelled rest h i x (room k ms rest (omega arith) (b, i, x)) none)
 
   -- refusal 6, which needs no RoomFor
-  pub no_room_exactly : (k : ℕ) → (reading.answer ≡ NoRoom k) ↔ LacksRoomAt id version space count rs ps k
+  pub no_room_exactly : (k : ℕ) → (reading.answer ≡ Err (NoRoom k)) ↔ LacksRoomAt id version space count rs ps k
   no_room_exactly k = (to answer_says, of)
     where
-      to : {o : Outcome} → SaysRead id version from space count rs ps o → o.answer ≡ NoRoom k → LacksRoomAt id version space count rs ps k
+      to : {o : Outcome} → SaysRead id version from space count rs ps o → o.answer ≡ Err (NoRoom k) → LacksRoomAt id version space count rs ps k
       to (says_done rest i x f) q = let z : ◌≡◌ {A = ℕ} 0 1 = cc in absurd (omega arith)
       to (says_not_spelled rest h i x f none) q = let z : ◌≡◌ {A = ℕ} 0 1 = cc in absurd (omega arith)
       to (says_no_room {k = j} {b = b} {ms = ms} {m = m} rest r h i x f y lacks) q =
           let e : j ≡ k = cc in
           subst (LacksRoomAt id version space count rs ps) e (h, (ms, rest, m, r, (b, i, x), f, y, lacks))
 
-      of : LacksRoomAt id version space count rs ps k → reading.answer ≡ NoRoom k
+      of : LacksRoomAt id version space count rs ps k → reading.answer ≡ Err (NoRoom k)
       of (h, (ms, rest, m, r, (b, i, x), f, y, lacks)) = ap (λ (o : Outcome). o.answer) (no_second_answer (says_no_room rest r h i x f y lacks))
 
-  pub full_stores_are_the_meaning : (k : ℕ) (x : LacksRoomAt id version space count rs ps k) → reading ≡ holding id rs ps x.1.0 (NoRoom k)
+  pub full_stores_are_the_meaning : (k : ℕ) (x : LacksRoomAt id version space count rs ps k) → reading ≡ holding id rs ps x.1.0 (Err (NoRoom k))
   full_stores_are_the_meaning k (h, (ms, rest, m, r, (b, i, x), f, y, lacks)) = no_second_answer (says_no_room rest r h i x f y lacks)
 
-  pub room_is_enough : RoomFor id version space count rs ps → (k : ℕ) → ¬ (reading.answer ≡ NoRoom k)
+  pub room_is_enough : RoomFor id version space count rs ps → (k : ℕ) → ¬ (reading.answer ≡ Err (NoRoom k))
   room_is_enough room k = to answer_says
     where
-      to : {o : Outcome} → SaysRead id version from space count rs ps o → ¬ (o.answer ≡ NoRoom k)
+      to : {o : Outcome} → SaysRead id version from space count rs ps o → ¬ (o.answer ≡ Err (NoRoom k))
       to (says_done rest i x f) q = let z : ◌≡◌ {A = ℕ} 0 1 = cc in omega arith
       to (says_not_spelled rest h i x f none) q = let z : ◌≡◌ {A = ℕ} 0 1 = cc in omega arith
       to (says_no_room {k = j} {b = b} {ms = ms} {m = m} rest r h i x f (c, w, y) lacks) q =
@@ -205,8 +207,8 @@ module _ (id : ℕ) (fits : id ≤ id_room) (file : List ℕ) (bytes : Bytes fil
 
 -- longer stores, same word: an answer that is no room refusal is given again, over the same records and paths
 module _ (id : ℕ) (fits : id ≤ id_room) (file : List ℕ) (bytes : Bytes file) (version from end count : ℕ) (lies_in : SpaceIn file from end) (rs ps rs₂ ps₂ : List ℕ) (wider : length rs ≤ length rs₂) (longer : length ps ≤ length ps₂) where
-  pub more_room_same_word : ((k : ℕ) → ¬ ((reading_of id file version from end count rs ps).answer ≡ NoRoom k))
-      → (a : Answer) × (ms : List Meaning) × (reading_of id file version from end count rs ps ≡ holding id rs ps ms a) × (reading_of id file version from end count rs₂ ps₂ ≡ holding id rs₂ ps₂ ms a)
+  pub more_room_same_word : ((k : ℕ) → ¬ ((reading_of id file version from end count rs ps).answer ≡ Err (NoRoom k)))
+      → (a : Result Done EntriesError) × (ms : List Meaning) × (reading_of id file version from end count rs ps ≡ holding id rs ps ms a) × (reading_of id file version from end count rs₂ ps₂ ≡ holding id rs₂ ps₂ ms a)
   more_room_same_word no_refusal = go (answer_says id fits file bytes version from end count lies_in rs ps) refl
     where
       again : {o : Outcome} → SaysRead id version from (entries_space file from end) count rs₂ ps₂ o → reading_of id file version from end count rs₂ ps₂ ≡ o
@@ -216,7 +218,7 @@ module _ (id : ℕ) (fits : id ≤ id_room) (file : List ℕ) (bytes : Bytes fil
       still_fits f = record { records = omega (arith, f.records); paths = omega (arith, f.paths) }
 
       go : {o : Outcome} → SaysRead id version from (entries_space file from end) count rs ps o → reading_of id file version from end count rs ps ≡ o
-          → (a : Answer) × (ms : List Meaning) × (reading_of id file version from end count rs ps ≡ holding id rs ps ms a) × (reading_of id file version from end count rs₂ ps₂ ≡ holding id rs₂ ps₂ ms a)
+          → (a : Result Done EntriesError) × (ms : List Meaning) × (reading_of id file version from end count rs ps ≡ holding id rs ps ms a) × (reading_of id file version from end count rs₂ ps₂ ≡ holding id rs₂ ps₂ ms a)
       go (says_done {b = b} {ms = ms} rest i x f) e = (done_by from b ms, ms, e, again (says_done rest i x (still_fits f)))
-      go (says_not_spelled {k = k} {ms = ms} rest h i x f none) e = (NotSpelled k, ms, e, again (says_not_spelled rest h i x (still_fits f) none))
+      go (says_not_spelled {k = k} {ms = ms} rest h i x f none) e = (Err (NotSpelled k), ms, e, again (says_not_spelled rest h i x (still_fits f) none))
       go (says_no_room {k = k} rest r h i x f y lacks) e = absurd (no_refusal k (ap (λ (o : Outcome). o.answer) e))

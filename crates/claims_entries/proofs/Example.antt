@@ -1,6 +1,6 @@
 -- The premises can be met, and matter: an entry that two stores of just its size hold; a store of one byte less gives refusal 6, and a space of one byte less refusal 5.
 -- Assumes nothing.
-use Rattle.std.specs.Prelude.{ℕ, zero, suc, ◌<◌, ◌≡◌, refl, List, [], ◌∷◌, ◌++◌, Bool, true, false, ltb, get_or, replicate}
+use Rattle.std.specs.Prelude.{ℕ, zero, suc, ◌<◌, ◌≡◌, refl, List, [], ◌∷◌, ◌++◌, Bool, true, false, ltb, get_or, replicate, Err, Ok}
 use Rattle.std.proofs.Common.{sym, subst, inl, inr, arith, lit≤, lit<}
 use Rattle.laws.specs.Pick.{pick}
 use Rattle.laws.specs.Read.{Begins, refuses}
@@ -8,7 +8,6 @@ use Rattle.laws.specs.Tests.{Less, less, not_less, less?}
 use Rattle.laws.specs.Times.{read_times, done}
 use Rattle.wire.specs.Places.{file_at, path_at}
 use Rattle.format.specs.Format.{id_size}
-use Rattle.decode.specs.declared.entries.Answer.TheVariants.{Done, NotSpelled, NoRoom}
 use Rattle.grammar.specs.Entry.{Meaning, meaning, start, Entry, Entries}
 use Rattle.grammar.specs.DecideNumber.{read_bytes, read_big, decided}
 use Rattle.grammar.proofs.DecideEntry.{read_words, read_fields, read_flags, read_counted, read_name, read_entry, read_entries, entry_reads, entries_reads}
@@ -16,6 +15,8 @@ use Rattle.grammar.proofs.Unique.{entries_unique}
 use Rattle.claims_entries.specs.Rendering.{paths_bytes, sparse_by, Bytes}
 use Rattle.claims_entries.specs.Said.{entries_space, SpaceIn, reading_of, holding, Fits, says_not_spelled, RoomFor}
 use Rattle.claims_entries.proofs.Claims.{no_second_answer, stores_are_the_meaning, no_room_exactly}
+use Rattle.decode.specs.Made.{done_at}
+use Rattle.decode.specs.declared.entries.Error.TheVariants.{NoRoom, NotSpelled}
 
 -- "a" of version 2, with one byte of padding, a 7, and a mode of which some bits are dropped
 abbrev one : List ℕ
@@ -64,17 +65,17 @@ room_met (suc (suc k)) ms rest h x = absurd (omega arith)
 
 -- ---- what then follows
 
-pub one_is_read : reading_of id_size one 2 0 64 1 (replicate 96 0) (replicate 1 0) ≡ holding id_size (replicate 96 0) (replicate 1 0) (means ∷ []) (Done (file_at 64) (path_at 1) false)
+pub one_is_read : reading_of id_size one 2 0 64 1 (replicate 96 0) (replicate 1 0) ≡ holding id_size (replicate 96 0) (replicate 1 0) (means ∷ []) (Ok (done_at (file_at 64) (path_at 1) false))
 unfolding paths_bytes sparse_by
 one_is_read = stores_are_the_meaning id_size (lit≤ tt) one one_bytes 2 0 64 1 one_inside (replicate 96 0) (replicate 1 0) room_met (means ∷ []) [] (one, refl, all_spelled)
 
-pub one_record_byte_short : (reading_of id_size one 2 0 64 1 (replicate 95 0) (replicate 1 0)).answer ≡ NoRoom 0
+pub one_record_byte_short : (reading_of id_size one 2 0 64 1 (replicate 95 0) (replicate 1 0)).answer ≡ Err (NoRoom 0)
 unfolding paths_bytes
 one_record_byte_short =
     (no_room_exactly id_size (lit≤ tt) one one_bytes 2 0 64 1 one_inside (replicate 95 0) (replicate 1 0) 0).1
     (lit< tt, ([], one, means, [], ([], refl, done), record { records = lit≤ tt; paths = lit≤ tt }, (one, refl, one_spelled), inl (lit< tt)))
 
-pub one_path_byte_short : (reading_of id_size one 2 0 64 1 (replicate 96 0) []).answer ≡ NoRoom 0
+pub one_path_byte_short : (reading_of id_size one 2 0 64 1 (replicate 96 0) []).answer ≡ Err (NoRoom 0)
 unfolding paths_bytes
 one_path_byte_short =
     (no_room_exactly id_size (lit≤ tt) one one_bytes 2 0 64 1 one_inside (replicate 96 0) [] 0).1
@@ -85,7 +86,7 @@ not_one : (m : Meaning) (rest : List ℕ) → ¬ Begins (Entry id_size 2 start) 
 unfolding read_bytes read_big read_words read_fields read_flags read_counted read_name read_entry
 not_one = (refuses (entry_reads id_size 2 start) (entries_space one 0 63)).0 refl
 
-pub one_space_byte_short : reading_of id_size one 2 0 63 1 (replicate 96 0) (replicate 1 0) ≡ holding id_size (replicate 96 0) (replicate 1 0) [] (NotSpelled 0)
+pub one_space_byte_short : reading_of id_size one 2 0 63 1 (replicate 96 0) (replicate 1 0) ≡ holding id_size (replicate 96 0) (replicate 1 0) [] (Err (NotSpelled 0))
 unfolding paths_bytes
 one_space_byte_short =
     no_second_answer id_size (lit≤ tt) one one_bytes 2 0 63 1 (record { ahead = lit≤ tt; inside = lit≤ tt }) (replicate 96 0) (replicate 1 0)

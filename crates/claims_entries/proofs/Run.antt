@@ -1,6 +1,6 @@
 -- `run` by meanings: a turn of it at an entry that is spelled, k turns at k entries, and what it answers where no more can be read. Assumes nothing.
 use Prim.Native.Nat.{ℕ, suc, ◌+◌, ◌-◌, ◌*◌, ◌/◌, ◌≤◌, ◌<◌}
-use Rattle.std.specs.Prelude.{◌≡◌, ◌⊎◌, leb, take, drop}
+use Rattle.std.specs.Prelude.{◌≡◌, ◌⊎◌, leb, take, drop, Err, Ok, Result}
 use Rattle.std.proofs.Math.Path.{refl, sym, ap, subst}
 use Rattle.std.proofs.Common.{◌∙◌, ⊎_elim, zero-add, take-take, take_all, take_at, drop_at}
 use mathlib.Core.List.{List, [], ◌∷◌, ◌++◌, append_assoc}
@@ -19,14 +19,15 @@ use Rattle.entry.specs.Record.{record_of, put_record}
 use Rattle.entry.specs.Laws.{put_is_paste}
 use Rattle.measure.specs.Entry.{measure_at}
 use Rattle.measure.specs.Inside.{measured_inside}
-use Rattle.measure.specs.declared.Measured.{Measured}
-use Rattle.measure.specs.declared.Measured.TheVariants.{Entry as Found}
 use Rattle.decode.specs.Entries.{path_of, marked, outcome, run}
-use Rattle.decode.specs.declared.entries.Answer.TheVariants.{NotSpelled, NoRoom}
 use Rattle.grammar.specs.Entry.{Meaning, Before, start, path, Entry, behind, Entries}
 use Rattle.claims_entries.specs.Place.{Lies, lies_left, lies_right}
 use Rattle.claims_entries.specs.Measure.{Knows, at_start, at_path, bytes_before, measured_path, Spelled, Refuses, short, fault, entry_complete, measure_spelled}
 use Rattle.claims_entries.specs.Rendering.{record_bytes, records_bytes, paths_bytes, marked_by, sparse_by, Bytes, length_record, spelled_id, record_is, marked_is}
+use Rattle.decode.specs.declared.entries.Error.TheVariants.{NoRoom, NotSpelled}
+use Rattle.measure.specs.Made.{measured_as}
+use Rattle.measure.specs.declared.Measured.{Measured}
+use Rattle.measure.specs.declared.Unspelled.{Unspelled}
 
 -- what the state of `run` holds of the path before: nothing, or that it is the last `prev` of the `used` path bytes
 pub data Stands (prev used : ℕ) (ps : List ℕ) : Bool → Before → Type 0 where
@@ -88,7 +89,7 @@ module _ (n : ℕ) (hid : n ≤ 32) (s : List ℕ) (bytes : Bytes s) (end versio
       let suffix : FileAt = t.suffix in
       let len : ℕ = t.len in
       let p : List ℕ = measured_path s before keep suffix len in
-      let q : measure_at n s at end version is-first prev ≡ Found flags keep suffix len (file_at (at + length b)) = t.measured in
+      let q : measure_at n s at end version is-first prev ≡ Ok (measured_as flags keep suffix len (file_at (at + length b))) = t.measured in
       let y : Spelled n s at end version before flags keep suffix len (file_at (at + length b)) = measure_spelled (knows st) q in
       let inside = measured_inside n s at end version is-first prev flags keep suffix len (file_at (at + length b)) (measure_at n s at end version is-first prev) refl q in
       let whole : at + (40 + n) ≤ length s = omega (arith, inside.least) in
@@ -108,11 +109,11 @@ module _ (n : ℕ) (hid : n ≤ 32) (s : List ℕ) (bytes : Bytes s) (end versio
   -- a turn at an entry that is spelled, and for which there is no room
   pub run_full : {before : Before} {b : List ℕ} {m : Meaning} → Entry n version before b m → {is-first : Bool} {prev used : ℕ} {ps : List ℕ} → Stands prev used ps is-first before → {at : ℕ} → Lies s at end b → (rs : List ℕ) (i : ℕ)
       → used ≤ length ps → (length rs < (i + 1) * 96) ⊎ (length ps < used + length m.path) → (left : ℕ) (sparse : Bool)
-      → run n s (file_at end) version (suc left) i (file_at at) (path_at used) is-first prev sparse rs ps ≡ outcome (NoRoom i) rs ps
+      → run n s (file_at end) version (suc left) i (file_at at) (path_at used) is-first prev sparse rs ps ≡ outcome (Err (NoRoom i)) rs ps
   unfolding run
   run_full {before} {b} {m} x {is-first} {prev} {used} {ps} st {at} l rs i within lacks left sparse =
       let t = entry_complete x (knows st) e l in
-      let q : measure_at n s at end version is-first prev ≡ Found t.flags t.keep t.suffix t.len (file_at (at + length b)) = t.measured in
+      let q : measure_at n s at end version is-first prev ≡ Ok (measured_as t.flags t.keep t.suffix t.len (file_at (at + length b))) = t.measured in
       let y = measure_spelled (knows st) q in
       let p : List ℕ = measured_path s before t.keep t.suffix t.len in
       let lp : length p ≡ t.keep + t.len =
@@ -120,17 +121,17 @@ module _ (n : ℕ) (hid : n ≤ 32) (s : List ℕ) (bytes : Bytes s) (end versio
       let mp : length m.path ≡ t.keep + t.len = ap (λ (o : Meaning). length o.path) t.means ∙ lp in
       rw q (⊎_elim (λ h. rw (le-leb (length rs / 96) i (omega arith))) (λ h. rw (lt-ltb (length ps - used) (t.keep + t.len) (omega arith)) (either (leb (length rs / 96) i))) lacks)
     where
-      either : (t : Bool) → pick t (outcome (NoRoom i) rs ps) (outcome (NoRoom i) rs ps) ≡ outcome (NoRoom i) rs ps
+      either : (t : Bool) → pick t (outcome (Err (NoRoom i)) rs ps) (outcome (Err (NoRoom i)) rs ps) ≡ outcome (Err (NoRoom i)) rs ps
       either true = refl
       either false = refl
 
   -- a turn where no entry is told
   pub run_refused : (is-first : Bool) (prev used at i left : ℕ) (sparse : Bool) (rs ps : List ℕ) → Refuses (measure_at n s at end version is-first prev)
-      → run n s (file_at end) version (suc left) i (file_at at) (path_at used) is-first prev sparse rs ps ≡ outcome (NotSpelled i) rs ps
+      → run n s (file_at end) version (suc left) i (file_at at) (path_at used) is-first prev sparse rs ps ≡ outcome (Err (NotSpelled i)) rs ps
   unfolding run
   run_refused is-first prev used at i left sparse rs ps r = go (measure_at n s at end version is-first prev) refl r
     where
-      go : (m : Measured) → measure_at n s at end version is-first prev ≡ m → Refuses m → run n s (file_at end) version (suc left) i (file_at at) (path_at used) is-first prev sparse rs ps ≡ outcome (NotSpelled i) rs ps
+      go : (m : Result Measured Unspelled) → measure_at n s at end version is-first prev ≡ m → Refuses m → run n s (file_at end) version (suc left) i (file_at at) (path_at used) is-first prev sparse rs ps ≡ outcome (Err (NotSpelled i)) rs ps
       go m q short = rw q
       go m q fault = rw q
 

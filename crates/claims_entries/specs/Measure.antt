@@ -1,6 +1,6 @@
 -- One entry: `measure_at` answers an entry exactly if one is spelled at the place, before `end`, and then the answer gives its meaning. Assumes nothing.
 use Prim.Native.Nat.{ℕ, ◌+◌, ◌-◌, ◌*◌, ◌/◌, ◌%◌, ◌≤◌, ◌<◌}
-use Rattle.std.specs.Prelude.{◌≡◌, refl, Bool, ◌↔◌, eqb, drop}
+use Rattle.std.specs.Prelude.{◌≡◌, refl, Bool, ◌↔◌, eqb, drop, Err, Ok, Option, Result}
 use Rattle.std.proofs.Common.{sym, ap, ◌∙◌, subst, arith, length-append, lt-ltb, le-ltb, eq-eqb, ne_eqb}
 use mathlib.Core.List.{List, [], ◌∷◌, ◌++◌, append_assoc}
 use Rattle.std.proofs.Math.Bool.{true, false}
@@ -11,19 +11,19 @@ use Rattle.laws.specs.Lists.{length_part}
 use Rattle.laws.specs.Read.{Begins}
 use Rattle.laws.specs.Tests.{Less, less, not_less, less?, Same, same, differs, same?, lt_or_ge}
 use Rattle.slices.specs.Bytes.{nul_at}
-use Rattle.slices.specs.declared.Ends.{Ends}
 use Rattle.wire.specs.Places.{file_at}
 use Rattle.wire.specs.declared.FileAt.{FileAt}
-use Rattle.wire.specs.declared.Number.{Number}
 use Rattle.measure.specs.Entry.{head_at, whole_of, padded_to, on_ends, on_number, on_left, on_head, padded_at, kept_of, suffixed_at, compressed_at, measure_at}
-use Rattle.measure.specs.declared.Head.{Head}
-use Rattle.measure.specs.declared.Head.TheVariants.{Fixed}
-use Rattle.measure.specs.declared.Measured.{Measured}
-use Rattle.measure.specs.declared.Measured.TheVariants.{Entry as Found, Short, Fault}
 use Rattle.grammar.specs.Entry.{Stat, Meaning, meaning, Fields, Flags, plain, extended, Padding, Before, start, path, Entry, entry}
 use Rattle.grammar.specs.Entry.Name.{counted, ended, first, later}
 use Rattle.claims_entries.specs.Place.{Lies, lies_take, lies_at, lies_left, lies_right, lies_then, lies_part, lies_from, lies_to}
 use Rattle.claims_entries.specs.Parts.{stat_at, meaning_at, fields_complete, fields_says, SaysHead, fixed, unfinished, spoiled, head_says, head_complete, SaysNumber, is, cut, over, number_says, number_complete, SaysNul, ends, never, nul_says, nul_complete}
+use Rattle.measure.specs.Made.{fixed_head, measured_as}
+use Rattle.measure.specs.declared.Head.{Head}
+use Rattle.measure.specs.declared.Measured.{Measured}
+use Rattle.measure.specs.declared.Unspelled.{Unspelled}
+use Rattle.measure.specs.declared.Unspelled.TheVariants.{Fault, Short}
+use Rattle.wire.specs.declared.NumberError.{NumberError}
 
 -- what the reader knows of the path before: whether there is none, and else its length
 pub data Knows : Bool → ℕ → Before → Type 0 where
@@ -48,18 +48,18 @@ pub record Spelled (n : ℕ) (s : List ℕ) (at end version : ℕ) (before : Bef
   pub is_entry : Entry n version before bytes (meaning_at n s at flags (measured_path s before keep suffix len))
 
 -- the two answers that tell no entry
-pub data Refuses : Measured → Type 0 where
-  short : Refuses Short
-  fault : Refuses Fault
+pub data Refuses : Result Measured Unspelled → Type 0 where
+  short : Refuses (Err Short)
+  fault : Refuses (Err Fault)
 
-pub not_found : {r : Measured} → Refuses r → {flags keep : ℕ} {suffix : FileAt} {len : ℕ} {next : FileAt} → ¬ (r ≡ Found flags keep suffix len next)
+pub not_found : {r : Result Measured Unspelled} → Refuses r → {flags keep : ℕ} {suffix : FileAt} {len : ℕ} {next : FileAt} → ¬ (r ≡ Ok (measured_as flags keep suffix len next))
 not_found short q = let z : ◌≡◌ {A = ℕ} 0 1 = cc in omega arith
 not_found fault q = let z : ◌≡◌ {A = ℕ} 0 1 = cc in omega arith
 
-pub data SaysMeasured (n : ℕ) (s : List ℕ) (at end version : ℕ) (before : Before) : Measured → Type 0 where
+pub data SaysMeasured (n : ℕ) (s : List ℕ) (at end version : ℕ) (before : Before) : Result Measured Unspelled → Type 0 where
   spelled : {flags keep : ℕ} {suffix : FileAt} {len : ℕ} {next : FileAt} → end ≤ length s → Spelled n s at end version before flags keep suffix len next
-      → SaysMeasured n s at end version before (Found flags keep suffix len next)
-  refused : {r : Measured} → Refuses r → SaysMeasured n s at end version before r
+      → SaysMeasured n s at end version before (Ok (measured_as flags keep suffix len next))
+  refused : {r : Result Measured Unspelled} → Refuses r → SaysMeasured n s at end version before r
 
 -- ---- the head before what follows it
 
@@ -69,7 +69,7 @@ whole_is k q a b c = omega arith
 record Headed (n : ℕ) (s : List ℕ) (at end : ℕ) (f id g r : List ℕ) (stat : Stat) (flags field : ℕ) : Type 0 where
   size : length f ≡ 40 + n
   means : meaning stat id ≡ meaning_at n s at
-  head : head_at n s at end ≡ Fixed flags (40 + n + length g) field
+  head : head_at n s at end ≡ Ok (fixed_head flags (40 + n + length g) field)
   left : Lies s (at + (40 + n + length g)) end r
 
 headed : {n : ℕ} {f id g r : List ℕ} {stat : Stat} {flags field : ℕ} → Fields n f stat id → Flags g flags field → {s : List ℕ} {at end : ℕ} → end ≤ length s → Lies s at end (f ++ (g ++ r))
@@ -91,7 +91,7 @@ pub record Told (n : ℕ) (s : List ℕ) (at end version : ℕ) (before : Before
   pub keep : ℕ
   pub suffix : FileAt
   pub len : ℕ
-  pub measured : measure_at n s at end version is-first prev ≡ Found flags keep suffix len (file_at (at + length b))
+  pub measured : measure_at n s at end version is-first prev ≡ Ok (measured_as flags keep suffix len (file_at (at + length b)))
   pub means : m ≡ meaning_at n s at flags (measured_path s before keep suffix len)
 
 pub entry_complete : {n version : ℕ} {before : Before} {b : List ℕ} {m : Meaning} → Entry n version before b m → {s : List ℕ} {at end : ℕ} {is-first : Bool} {prev : ℕ} → Knows is-first prev before → end ≤ length s → Lies s at end b
@@ -196,7 +196,7 @@ module _ (n : ℕ) (s : List ℕ) (at end version : ℕ) (e : end ≤ length s) 
         p : List ℕ
         p = take (whole - (size + len)) (drop (at + size + len) s)
 
-        go : {u : Bool} → Less (end - at) whole u → SaysMeasured n s at end version before (pick u Short (Found flags 0 (file_at (at + size)) len (file_at (at + whole))))
+        go : {u : Bool} → Less (end - at) whole u → SaysMeasured n s at end version before (pick u (Err Short) (Ok (measured_as flags 0 (file_at (at + size)) len (file_at (at + whole)))))
         go (less h) = refused short
         go (not_less h) =
             let lt : length t ≡ len = length_part len (at + size) s (omega (arith, l.fits)) in
@@ -215,8 +215,8 @@ module _ (n : ℕ) (s : List ℕ) (at end version : ℕ) (e : end ≤ length s) 
               is_entry = entry front_fields y (counted v small lt pad);
             })
 
-    ended_says : (version ≡ 4 → ⊥) → Flags g flags 4095 → {x : Ends} → SaysNul s (at + (40 + n + length g)) end x
-        → SaysMeasured n s at end version before (on_ends x Short (λ z. padded_to at end flags (40 + n + length g) (z - (at + (40 + n + length g)))))
+    ended_says : (version ≡ 4 → ⊥) → Flags g flags 4095 → {x : Option ℕ} → SaysNul s (at + (40 + n + length g)) end x
+        → SaysMeasured n s at end version before (on_ends x (Err Short) (λ z. padded_to at end flags (40 + n + length g) (z - (at + (40 + n + length g)))))
     unfolding padded_to whole_of
     ended_says v y never = refused short
     ended_says v y (ends {z = z} t lz ez no_nul) = go (less? (end - at) whole)
@@ -233,7 +233,7 @@ module _ (n : ℕ) (s : List ℕ) (at end version : ℕ) (e : end ≤ length s) 
         p : List ℕ
         p = take (whole - (size + len + 1)) (drop (z + 1) s)
 
-        go : {u : Bool} → Less (end - at) whole u → SaysMeasured n s at end version before (pick u Short (Found flags 0 (file_at (at + size)) len (file_at (at + whole))))
+        go : {u : Bool} → Less (end - at) whole u → SaysMeasured n s at end version before (pick u (Err Short) (Ok (measured_as flags 0 (file_at (at + size)) len (file_at (at + whole)))))
         go (less h) = refused short
         go (not_less h) =
             let lt : length t ≡ len = omega arith in
@@ -256,14 +256,14 @@ module _ (n : ℕ) (s : List ℕ) (at end version : ℕ) (e : end ≤ length s) 
             })
 
     -- no entry is told by a number that is cut short, whatever is left of the path before
-    cut_says : (is-first : Bool) (prev v : ℕ) → SaysMeasured n s at end version before (on_left (kept_of is-first prev v) Fault (λ keep. Short))
+    cut_says : (is-first : Bool) (prev v : ℕ) → SaysMeasured n s at end version before (on_left (kept_of is-first prev v) (Err Fault) (λ keep. Err Short))
     unfolding kept_of
     cut_says true prev v = refused short
     cut_says false prev v = ⊎_elim (λ h. rw (lt-ltb prev v h) (refused fault)) (λ h. rw (le-ltb prev v h) (refused short)) (lt_or_ge prev v)
 
-    stripped_says : (field : ℕ) (is-first : Bool) (prev : ℕ) → Knows is-first prev before → version ≡ 4 → Flags g flags field → {x : Number} → SaysNumber s (at + (40 + n + length g)) end x
+    stripped_says : (field : ℕ) (is-first : Bool) (prev : ℕ) → Knows is-first prev before → version ≡ 4 → Flags g flags field → {x : Result (ℕ × ℕ) NumberError} → SaysNumber s (at + (40 + n + length g)) end x
         → SaysMeasured n s at end version before
-        (on_number x (λ v j. on_left (kept_of is-first prev v) Fault (λ keep. suffixed_at s j end flags keep)) (λ a. on_left (kept_of is-first prev (a * 128)) Fault (λ keep. Short)) Fault)
+        (on_number x (λ v j. on_left (kept_of is-first prev v) (Err Fault) (λ keep. suffixed_at s j end flags keep)) (λ a. on_left (kept_of is-first prev (a * 128)) (Err Fault) (λ keep. Err Short)) (Err Fault))
     unfolding kept_of suffixed_at
     stripped_says field is-first prev k q y over = refused fault
     stripped_says field is-first prev k q y (cut {v = a}) = cut_says is-first prev (a * 128)
@@ -274,7 +274,7 @@ module _ (n : ℕ) (s : List ℕ) (at end version : ℕ) (e : end ≤ length s) 
 
         told : {before₁ : Before} {keep z : ℕ} (t : List ℕ) → Lies s j end (t ++ (0 ∷ [])) → z ≡ j + length t → keep ≤ length (bytes_before before₁)
             → (t ≡ take (z - j) (drop j s) → Entry n version before₁ (bytes t) (meaning_at n s at flags (measured_path s before₁ keep (file_at j) (z - j))))
-            → SaysMeasured n s at end version before₁ (Found flags keep (file_at j) (z - j) (file_at (z + 1)))
+            → SaysMeasured n s at end version before₁ (Ok (measured_as flags keep (file_at j) (z - j) (file_at (z + 1))))
         told {before₁} {keep} {z} t lz ez small made =
             let c : length t ≡ z - j = omega arith in
             let j₁ : z + 1 ≡ at + length (bytes t) = omega (arith, size_all (b ++ (t ++ (0 ∷ []))), length-append b (t ++ (0 ∷ [])), length-append t (0 ∷ [])) in
@@ -288,8 +288,8 @@ module _ (n : ℕ) (s : List ℕ) (at end version : ℕ) (e : end ≤ length s) 
               is_entry = made (sym (lies_take (lies_left t (0 ∷ []) lz)) ∙ ap (λ (i : ℕ). take i (drop j s)) c);
             })
 
-        go : {is-first₁ : Bool} {before₁ : Before} → Knows is-first₁ prev before₁ → {x : Ends} → SaysNul s j end x
-            → SaysMeasured n s at end version before₁ (on_left (kept_of is-first₁ prev v) Fault (λ keep. on_ends x Short (λ z. Found flags keep (file_at j) (z - j) (file_at (z + 1)))))
+        go : {is-first₁ : Bool} {before₁ : Before} → Knows is-first₁ prev before₁ → {x : Option ℕ} → SaysNul s j end x
+            → SaysMeasured n s at end version before₁ (on_left (kept_of is-first₁ prev v) (Err Fault) (λ keep. on_ends x (Err Short) (λ z. Ok (measured_as flags keep (file_at j) (z - j) (file_at (z + 1))))))
         go at_start never = refused short
         go at_start (ends t lz ez no_nul) = told t lz ez (omega arith) (λ text. rw (← text) (entry front_fields y (first q num no_nul)))
         go (at_path r) never = ⊎_elim (λ h. rw (lt-ltb prev v h) (refused fault)) (λ h. rw (le-ltb prev v h) (refused short)) (lt_or_ge prev v)
@@ -302,8 +302,8 @@ pub measure_says : (n : ℕ) (s : List ℕ) (at end version : ℕ) {before : Bef
 unfolding measure_at compressed_at padded_at
 measure_says n s at end version {before} {is-first} {prev} k = go (head_says n s at end)
   where
-    go : {h : Head} → SaysHead n s at end h
-        → SaysMeasured n s at end version before (on_head h Short Fault (λ flags size field. pick (eqb version 4) (compressed_at s (at + size) end flags is-first prev) (padded_at s at end flags size field)))
+    go : {h : Result Head Unspelled} → SaysHead n s at end h
+        → SaysMeasured n s at end version before (on_head h (Err Short) (Err Fault) (λ flags size field. pick (eqb version 4) (compressed_at s (at + size) end flags is-first prev) (padded_at s at end flags size field)))
     go unfinished = refused short
     go spoiled = refused fault
     go (fixed {flags = flags} {size = size} {field = field} g e b l y z) = rw z (to (same? version 4) (same? field 4095))
@@ -311,16 +311,16 @@ measure_says n s at end version {before} {is-first} {prev} k = go (head_says n s
         to : {t u : Bool} → Same version 4 t → Same field 4095 u
             → SaysMeasured n s at end version before
             (pick t (compressed_at s (at + (40 + n + length g)) end flags is-first prev)
-            (pick u (on_ends (nul_at s (at + (40 + n + length g)) end) Short (λ z. padded_to at end flags (40 + n + length g) (z - (at + (40 + n + length g))))) (padded_to at end flags (40 + n + length g) field)))
+            (pick u (on_ends (nul_at s (at + (40 + n + length g)) end) (Err Short) (λ z. padded_to at end flags (40 + n + length g) (z - (at + (40 + n + length g))))) (padded_to at end flags (40 + n + length g) field)))
         to (same v) u = stripped_says n s at end version e g l before flags field is-first prev k v y (number_says s (at + (40 + n + length g)) end (omega (arith, l.fits)))
         to (differs v) (same u) = ended_says n s at end version e g l before flags v (rw u at y) (nul_says s (at + (40 + n + length g)) end (omega (arith, l.fits)))
         to (differs v) (differs u) = counted_says n s at end version e g l before flags field v y (let w = flags_small y in omega arith)
 
 pub measure_spelled : {n : ℕ} {s : List ℕ} {at end version : ℕ} {before : Before} {is-first : Bool} {prev flags keep : ℕ} {suffix : FileAt} {len : ℕ} {next : FileAt} → Knows is-first prev before
-    → measure_at n s at end version is-first prev ≡ Found flags keep suffix len next → Spelled n s at end version before flags keep suffix len next
+    → measure_at n s at end version is-first prev ≡ Ok (measured_as flags keep suffix len next) → Spelled n s at end version before flags keep suffix len next
 measure_spelled {n} {s} {at} {end} {version} {before} {flags = flags} {keep} {suffix} {len} {next} k q = of (subst (SaysMeasured n s at end version before) q (measure_says n s at end version k))
   where
-    of : SaysMeasured n s at end version before (Found flags keep suffix len next) → Spelled n s at end version before flags keep suffix len next
+    of : SaysMeasured n s at end version before (Ok (measured_as flags keep suffix len next)) → Spelled n s at end version before flags keep suffix len next
     of (spelled e x) = x
     of (refused r) = elim r [ ]
 
@@ -328,7 +328,7 @@ measure_spelled {n} {s} {at} {end} {version} {before} {flags = flags} {keep} {su
 
 module _ (n : ℕ) (s : List ℕ) (at end version : ℕ) (before : Before) (is-first : Bool) (prev : ℕ) (k : Knows is-first prev before) (e : end ≤ length s) (h : at ≤ end) where
   -- what is measured is spelled, before `end`, with the meaning that the measure tells, and the next one begins where it says
-  pub measured_is_spelled : (flags keep : ℕ) (suffix : FileAt) (len : ℕ) (next : FileAt) → measure_at n s at end version is-first prev ≡ Found flags keep suffix len next
+  pub measured_is_spelled : (flags keep : ℕ) (suffix : FileAt) (len : ℕ) (next : FileAt) → measure_at n s at end version is-first prev ≡ Ok (measured_as flags keep suffix len next)
       → Begins (Entry n version before) (drop at (take end s)) (meaning_at n s at flags (measured_path s before keep suffix len)) (drop next.0 (take end s))
   measured_is_spelled flags keep suffix len next q =
       let x = measure_spelled k q in
@@ -343,9 +343,9 @@ module _ (n : ℕ) (s : List ℕ) (at end version : ℕ) (before : Before) (is-f
   pub refused_exactly_if_not_spelled : Refuses (measure_at n s at end version is-first prev) ↔ ((m : Meaning) (rest : List ℕ) → ¬ Begins (Entry n version before) (drop at (take end s)) m rest)
   refused_exactly_if_not_spelled = ((λ r m rest x. not_found r (spelled_is_measured m rest x).measured), from (measure_at n s at end version is-first prev) refl)
     where
-      from : (m : Measured) → measure_at n s at end version is-first prev ≡ m → ((m : Meaning) (rest : List ℕ) → ¬ Begins (Entry n version before) (drop at (take end s)) m rest)
+      from : (m : Result Measured Unspelled) → measure_at n s at end version is-first prev ≡ m → ((m : Meaning) (rest : List ℕ) → ¬ Begins (Entry n version before) (drop at (take end s)) m rest)
           → Refuses (measure_at n s at end version is-first prev)
-      from Short q none = rw q short
-      from Fault q none = rw q fault
-      from (Found flags keep suffix len next) q none =
-          absurd (none (meaning_at n s at flags (measured_path s before keep suffix len)) (drop next.0 (take end s)) (measured_is_spelled flags keep suffix len next q))
+      from (Err Short) q none = rw q short
+      from (Err Fault) q none = rw q fault
+      from (Ok m) q none =
+          absurd (none (meaning_at n s at m.flags (measured_path s before m.keep m.suffix m.len)) (drop m.next.0 (take end s)) (measured_is_spelled m.flags m.keep m.suffix m.len m.next q))

@@ -1,7 +1,7 @@
 -- How far entries are spelled and have room, from any place and with any state: all of so many, or k of them and then none, or k of them and then one without room.
 -- Assumes nothing.
 use Prim.Native.Nat.{ℕ, zero, suc, ◌+◌, ◌*◌, ◌≤◌, ◌<◌}
-use Rattle.std.specs.Prelude.{◌≡◌, Bool, true, false, ◌⊎◌}
+use Rattle.std.specs.Prelude.{◌≡◌, Bool, true, false, ◌⊎◌, Ok, Result}
 use Rattle.std.proofs.Math.Path.{refl}
 use Rattle.std.proofs.Common.{sym, ◌∙◌, inl, inr, add-zero}
 use mathlib.Core.List.{List, [], ◌++◌}
@@ -10,13 +10,13 @@ use Rattle.std.proofs.Math.ListN.{length, length-append}
 use Rattle.laws.specs.Tests.{Less, less, not_less, less?}
 use Rattle.laws.specs.Times.{done, more, later}
 use Rattle.measure.specs.Entry.{measure_at}
-use Rattle.measure.specs.declared.Measured.{Measured}
-use Rattle.measure.specs.declared.Measured.TheVariants.{Entry as Found}
 use Rattle.grammar.specs.Entry.{Meaning, Before, start, path, Entry, behind, Entries}
 use Rattle.claims_entries.specs.Place.{Lies, lies_at, lies_join, lies_nothing}
 use Rattle.claims_entries.specs.Parts.{meaning_at}
 use Rattle.claims_entries.specs.Measure.{Knows, at_start, at_path, bytes_before, measured_path, not_found, SaysMeasured, spelled, refused, entry_complete, measure_says}
 use Rattle.claims_entries.specs.Rendering.{paths_bytes}
+use Rattle.measure.specs.declared.Measured.{Measured}
+use Rattle.measure.specs.declared.Unspelled.{Unspelled}
 
 abbrev is_start : Before → Bool
 is_start start = true
@@ -68,18 +68,18 @@ module _ (n : ℕ) (file : List ℕ) (end version slots room : ℕ) (inside : en
       held : Held slots room i used 0 []
       held = record { records = omega arith; paths = omega arith }
 
-      go : (r : Measured) → measure_at n file at end version (is_start before) (length (bytes_before before)) ≡ r → SaysMeasured n file at end version before r
+      go : (r : Result Measured Unspelled) → measure_at n file at end version (is_start before) (length (bytes_before before)) ≡ r → SaysMeasured n file at end version before r
           → ((b : Before) (j o u : ℕ) → j ≤ end → o * 96 ≤ slots → u ≤ room → Reach n file end version slots room b j o u count) → Reach n file end version slots room before at i used (suc count)
       go r q (refused f) ih =
           part {k = 0} (omega arith) done (lies_nothing file at end a) held
           (λ d m x l. not_found f (sym q ∙ (entry_complete x (knows_of before) inside (lies_at l (add-zero at))).measured))
-      go (Found flags keep suffix len next) q (spelled e x) ih = to (less? slots ((i + 1) * 96)) (less? room (used + length p))
+      go (Ok found) q (spelled e x) ih = to (less? slots ((i + 1) * 96)) (less? room (used + length p))
         where
           p : List ℕ
-          p = measured_path file before keep suffix len
+          p = measured_path file before found.keep found.suffix found.len
 
           m : Meaning
-          m = meaning_at n file at flags p
+          m = meaning_at n file at found.flags p
 
           lies : Lies file (at + 0) end x.bytes
           lies = lies_at x.lies (sym (add-zero at))

@@ -1,6 +1,6 @@
 -- What the claims say: the rule of each answer, and the premises, in the grammar's terms, over the length of an id. Of a reader only `read_entries`, which its contract cites,
 -- and the outcome are named here (01, "When the desk says no", 5 and 6). Assumes nothing.
-use Rattle.std.specs.Prelude.{ℕ, ◌+◌, ◌*◌, ◌≤◌, ◌<◌, ◌≡◌, List, ◌++◌, Bool, true, false, ◌⊎◌, length, take, drop}
+use Rattle.std.specs.Prelude.{ℕ, ◌+◌, ◌*◌, ◌≤◌, ◌<◌, ◌≡◌, List, ◌++◌, Bool, false, ◌⊎◌, length, take, drop, Err, None, Ok, Result}
 use Rattle.laws.specs.Read.{Begins}
 use Rattle.laws.specs.Times.{later}
 use Rattle.wire.specs.Places.{file_at, path_at}
@@ -8,11 +8,13 @@ use Rattle.wire.specs.declared.FileAt.{FileAt}
 use Rattle.wire.specs.declared.PathAt.{PathAt}
 use Rattle.entry.specs.Layout.{record_size}
 use Rattle.decode.specs.Entries.{Outcome, outcome, read_entries}
-use Rattle.decode.specs.declared.entries.Answer.{Answer}
-use Rattle.decode.specs.declared.entries.Answer.TheVariants.{Done, NotSpelled, NoRoom}
 use Rattle.decode.specs.declared.entries.Before.{Before as Standing}
 use Rattle.grammar.specs.Entry.{Meaning, Before, start, Entry, behind, Entries}
 use Rattle.claims_entries.specs.Rendering.{records_bytes, paths_bytes, sparse_by}
+use Rattle.decode.specs.Made.{done_at}
+use Rattle.decode.specs.declared.entries.Done.{Done}
+use Rattle.decode.specs.declared.entries.Error.{Error as EntriesError}
+use Rattle.decode.specs.declared.entries.Error.TheVariants.{NoRoom, NotSpelled}
 
 -- the entries' space: from `from` to `end`
 abbrev pub entries_space : List ℕ → ℕ → ℕ → List ℕ
@@ -25,7 +27,7 @@ pub record SpaceIn (file : List ℕ) (from end : ℕ) : Type 0 where
 
 -- no path comes before, and nothing of the path store is in use
 abbrev pub nothing_before : Standing
-nothing_before = record { used = path_at 0; first = true; length = 0 }
+nothing_before = record { used = path_at 0; path = None }
 
 -- what the reader's contract cites
 abbrev pub reading_of : ℕ → List ℕ → ℕ → ℕ → ℕ → ℕ → List ℕ → List ℕ → Outcome
@@ -40,12 +42,12 @@ abbrev pub after : List Meaning → Before
 after ms = later behind start ms
 
 -- what both stores hold, and the answer beside them: the records and the paths of these entries in front, and the rest as it was
-abbrev pub holding : ℕ → List ℕ → List ℕ → List Meaning → Answer → Outcome
+abbrev pub holding : ℕ → List ℕ → List ℕ → List Meaning → Result Done EntriesError → Outcome
 holding n rs ps ms a = outcome a (filled rs (records_bytes n 0 ms)) (filled ps (paths_bytes ms))
 
 -- all entries are read, of which b are the bytes
-abbrev pub done_by : ℕ → List ℕ → List Meaning → Answer
-done_by from b ms = Done (file_at (from + length b)) (path_at (length (paths_bytes ms))) (sparse_by false ms)
+abbrev pub done_by : ℕ → List ℕ → List Meaning → Result Done EntriesError
+done_by from b ms = Ok (done_at (file_at (from + length b)) (path_at (length (paths_bytes ms))) (sparse_by false ms))
 
 -- room for k records and the paths of ms
 pub record Fits (rs ps : List ℕ) (k : ℕ) (ms : List Meaning) : Type 0 where
@@ -64,15 +66,15 @@ pub data SaysRead (n version from : ℕ) (xs : List ℕ) (count : ℕ) (rs ps : 
   -- the first k are spelled, and what is left begins with none
   says_not_spelled : {k : ℕ} {b : List ℕ} {ms : List Meaning} (rest : List ℕ) → k < count → xs ≡ b ++ rest → Entries n version start k b ms → Fits rs ps k ms
       → ((m : Meaning) (q : List ℕ) → ¬ Begins (Entry n version (after ms)) rest m q)
-      → SaysRead n version from xs count rs ps (holding n rs ps ms (NotSpelled k))
+      → SaysRead n version from xs count rs ps (holding n rs ps ms (Err (NotSpelled k)))
   -- the first k and one more are spelled, and there is no room for that one
   says_no_room : {k : ℕ} {b : List ℕ} {ms : List Meaning} {m : Meaning} (rest q : List ℕ) → k < count → xs ≡ b ++ rest → Entries n version start k b ms → Fits rs ps k ms
       → Begins (Entry n version (after ms)) rest m q → Lacks rs ps k ms m
-      → SaysRead n version from xs count rs ps (holding n rs ps ms (NoRoom k))
+      → SaysRead n version from xs count rs ps (holding n rs ps ms (Err (NoRoom k)))
 
 -- an answer is Done
-abbrev pub IsDone : Answer → Type 0
-IsDone a = (next : FileAt) × (used : PathAt) × (sparse : Bool) × (a ≡ Done next used sparse)
+abbrev pub IsDone : Result Done EntriesError → Type 0
+IsDone a = (next : FileAt) × (used : PathAt) × (sparse : Bool) × (a ≡ Ok (done_at next used sparse))
 
 module _ (n version : ℕ) (xs : List ℕ) (count : ℕ) where
   abbrev pub AllSpelled : Type 0

@@ -29,8 +29,8 @@ framed_within (framed {signature = s} {size = z} {body = d} h x) at c =
 
 within : (before : List Ext) (e : Ext) (behind : List Ext) {xs : List ℕ} {es : List Ext} → Extensions xs es → es ≡ before ++ (e ∷ behind) → (at : ℕ)
     → Within at xs (at + bytes_of before + extension_header) e.body
-within [] e behind done i at = let z : ◌≡◌ {A = ℕ} 0 1 = cc in absurd (omega arith)
-within (d ∷ before) e behind done i at = let z : ◌≡◌ {A = ℕ} 0 1 = cc in absurd (omega arith)
+within [] e behind done i at = cc
+within (d ∷ before) e behind done i at = cc
 within [] e behind (more {v = v} {b = b} {c = c} x y) i at =
     let j : v ≡ e = cc in
     let z : at + extension_header ≡ at + 0 + extension_header = omega arith in

@@ -1,6 +1,6 @@
 -- What the extensions that the walk finds mean in the grammar: an extension that stands at a place is framed there, one that is forbidden is one that may not stand, and the
 -- chain from a place on fills the space, or is faulty where it breaks off or has a forbidden one. Assumes that the file is bytes and that the space lies in it.
-use Rattle.std.specs.Prelude.{ℕ, ◌+◌, ◌-◌, ◌≤◌, ◌<◌, ◌≡◌, refl, Bool, true, false, List, [], ◌∷◌, ◌++◌, length, get_or, take, drop}
+use Rattle.std.specs.Prelude.{ℕ, ◌+◌, ◌-◌, ◌≤◌, ◌<◌, ◌≡◌, refl, Bool, true, false, List, [], ◌∷◌, ◌++◌, length, get_or, take, drop, None, Option, Some}
 use Rattle.std.proofs.Common.{sym, ap, ◌∙◌, subst, append_assoc, ⊎_elim, arith, length-append, length-drop, take-append-drop, drop-drop, take_at, drop_at, length-take-le}
 use Rattle.std.proofs.Math.Seq.{drop-length}
 use Rattle.laws.specs.Pick.{pick}
@@ -16,8 +16,6 @@ use Rattle.extension.specs.Iter.{Found, filled, stray, body_of}
 use Rattle.extension.specs.Decode.{forbidden, is_forbidden, optional as optionalFirst}
 use Rattle.extension.specs.Theorems.{Fits, Stands, Chain, chain_filled, chain_stray, chain_more}
 use Rattle.extension.proofs.Filling as filling
-use Rattle.extension.specs.declared.iter.Body.{Body}
-use Rattle.extension.specs.declared.iter.Body.TheVariants.{Lies, Missing}
 use Rattle.grammar.specs.Number.{big_endian, BigEndian, big_endian_lem}
 use Rattle.grammar.specs.Extension.{Ext, ext, Framed, framed, extension_header, Mandatory, sdir, Allowed, optional, empty_sdir, Extension, Extensions, NoneSigned, none_left, another, bytes_of, LastSigned, last_signed}
 use Rattle.grammar.specs.Fault as fault
@@ -29,6 +27,8 @@ use Rattle.claims_entries.specs.Rendering.{Bytes}
 use Rattle.claims_entries.proofs.Fields.{bytes_left}
 use Rattle.claims_extension.specs.Words.{bytes_within, FourBytes, signature_injective, big_endian_before, big_endian_value, first_byte_lem, sdir_bytes}
 use Rattle.claims_extension.specs.Said.{HasSdir, SaysBody, says_missing, says_lies, last_is_some, none_is_some}
+use Rattle.extension.specs.Made.{body_between}
+use Rattle.extension.specs.declared.iter.Body.{Body}
 
 -- ---- which may stand
 
@@ -77,13 +77,13 @@ allowed_if {f = f} {e} x q = go (judged x) q
   where
     go : {t : Bool} → Judged e t → t ≡ false → Allowed e
     go (may_stand a) r = a
-    go (may_not k) r = let z : ◌≡◌ {A = ℕ} 0 1 = cc in absurd (omega arith)
+    go (may_not k) r = cc
 
 pub refused_if : {at : ℕ} {f : Found} {e : Ext} → SameExtension at f e → is_forbidden f ≡ true → Allowed e → ⊥
 refused_if {f = f} {e} x q = go (judged x) q
   where
     go : {t : Bool} → Judged e t → t ≡ true → Allowed e → ⊥
-    go (may_stand a) r = let z : ◌≡◌ {A = ℕ} 0 1 = cc in absurd (omega arith)
+    go (may_stand a) r = cc
     go (may_not k) r = k
 
 -- ---- lists that say the same
@@ -137,12 +137,12 @@ module _ {signature : List ℕ} (four : FourBytes signature) where
         stops = r.stops ∙ ap (λ (j : ℕ). file_at (j + length r.e.body)) z;
       }
 
-  signed_body : {at : ℕ} {f : Found} {es : List Ext} → Last at f es → (place : ℕ) × (body : List ℕ) × LastSigned signature at es place body × (body_of f ≡ Lies (file_at place) (file_at (place + length body)))
+  signed_body : {at : ℕ} {f : Found} {es : List Ext} → Last at f es → (place : ℕ) × (body : List ℕ) × LastSigned signature at es place body × (body_of f ≡ Some (body_between (file_at place) (file_at (place + length body))))
   signed_body {at} l =
-      (at + bytes_of l.before + extension_header, l.e.body, last_signed l.before l.behind l.joins l.signed l.none, (λ i. Lies (l.starts i) (l.stops i)))
+      (at + bytes_of l.before + extension_header, l.e.body, last_signed l.before l.behind l.joins l.signed l.none, (λ i. Some (body_between (l.starts i) (l.stops i))))
 
   -- the body that is answered
-  pub body_says : {at : ℕ} {fs : List Found} {es : List Ext} {b : Body} → SameExtensions at fs es → filling.SaysLast (big_endian signature) Missing fs b → SaysBody signature at es b
+  pub body_says : {at : ℕ} {fs : List Found} {es : List Ext} {b : Option Body} → SameExtensions at fs es → filling.SaysLast (big_endian signature) None fs b → SaysBody signature at es b
   body_says x (filling.as_before n) = says_missing (none_signed x n)
   body_says {at} {es = es} x (filling.the_last l) =
       let (place, body, m, e) = signed_body (last_found x l) in

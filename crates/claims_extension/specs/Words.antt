@@ -32,7 +32,7 @@ bytes_if (c ∷ b) e i = go (λ h. bytes_if b h) (less? c 256) e i
     go : (all_bytes b ≡ true → Bytes b) → {t : Bool} → Less c 256 t → pick t (all_bytes b) false ≡ true → Bytes (c ∷ b)
     go ih (less h) q zero = h
     go ih (less h) q (suc i) = ih q i
-    go ih (not_less h) q i = let z : ◌≡◌ {A = ℕ} 0 1 = cc in absurd (omega arith)
+    go ih (not_less h) q i = cc
 
 pub record FourBytes (b : List ℕ) : Type 0 where
   pub four : length b ≡ 4

@@ -1,5 +1,5 @@
 -- OURS MEET THE DEMANDS: the definitions that the contracts cite. Assumes nothing.
-use Rattle.std.specs.Prelude.{ℕ, ◌≡◌, refl, Bool, true, false, ◌&&◌, List, [], ◌∷◌, take}
+use Rattle.std.specs.Prelude.{ℕ, ◌≡◌, refl, Bool, true, false, ◌&&◌, List, [], ◌∷◌, take, Ok, Result, Some}
 use Rattle.std.proofs.Common.{sym, ap, ◌∙◌, lit≤}
 use Rattle.std.proofs.lemmas.Bool.{false≢true}
 use Rattle.laws.specs.Pick.{pick}
@@ -10,13 +10,11 @@ use Rattle.sha1_hash.specs.Theorems.{each_prefix_finishes}
 use Rattle.sha1_hash.specs.declared.Digest.{Digest}
 use Rattle.kind.specs.Sha1.{sha1_kind}
 use Rattle.node.specs.Store.{nodes_in}
-use Rattle.extension.specs.declared.end_of_index_entry.Told.TheVariants.{Offset}
 use Rattle.access.specs.Lookup.{lookup_at}
 use Rattle.access.specs.Finds.{absent_then_none, none_then_absent, found_then_has, has_then_found}
 use Rattle.access.specs.Steps.{found_counts_the_steps, absent_counts_the_steps}
 use Rattle.grammar.proofs.Unique as grammar
 use Rattle.file.specs.Read.{read_file}
-use Rattle.file.specs.declared.Answer.TheVariants.{Read}
 use Rattle.write.specs.File.{writes_tree, write_all}
 use Rattle.write.specs.declared.Options.{Options}
 use Rattle.claims.specs.Reading.{answer_says}
@@ -32,6 +30,9 @@ use Rattle.claims_write.specs.Asked as asked
 use Rattle.claims_write.specs.Eoie as eoie
 use Rattle.claims_write.specs.Claims as claims_write
 use Rattle.claims_frauds.specs.Demands.{Reader, Writer, Digester, Demand3, AnswersByTheTable, Answers, WritesAsAsked, Case, Done?, ReadsBack, Finds, Demand2, CountsTheSteps, fed_all, DigestsEachPrefix}
+use Rattle.file.specs.Made.{read_with_all}
+use Rattle.file.specs.declared.Error.{Error as FileError}
+use Rattle.file.specs.declared.Reading.{Reading}
 
 -- what the contracts of `file::read`, `write::write_to`, `access::lookup` and `sha1_hash::Digest` cite
 abbrev pub reader : Reader
@@ -91,9 +92,9 @@ module _ (c : Case) (x : Done? sha1_kind writer c) where
 
 -- the reader's answer in the words of what is asked for
 answered : (c : Case) {sparse : Bool} {records paths : ℕ}
-    → Read c.version sparse (writes_tree c.options) records paths (pick (writes_tree c.options) (nodes_in c.nodes) 0)
-    ≡ Read c.version sparse (tree_asked c.options) records paths (pick (tree_asked c.options) (nodes_in c.nodes) 0)
-answered c {sparse} {records} {paths} = ap (λ (t : Bool). Read c.version sparse t records paths (pick t (nodes_in c.nodes) 0)) (writes_tree_is c.options)
+    → ◌≡◌ {A = Result Reading FileError} (Ok (read_with_all c.version sparse (writes_tree c.options) records paths (pick (writes_tree c.options) (nodes_in c.nodes) 0)))
+    (Ok (read_with_all c.version sparse (tree_asked c.options) records paths (pick (tree_asked c.options) (nodes_in c.nodes) 0)))
+answered c {sparse} {records} {paths} = ap (λ (t : Bool). Ok (read_with_all c.version sparse t records paths (pick t (nodes_in c.nodes) 0))) (writes_tree_is c.options)
 
 -- TREE is given and asked for
 both_asked : (o : Options) → tree_asked o ≡ true → (o.tree ≡ true) × (o.cache ≡ true)
@@ -119,7 +120,7 @@ reads_back =
         means c x,
         λ e. written_tree_is_the_tables sha1_kind c.records c.paths c.nodes c.names c.options c.out c.version c.size x.done x.few (ends c x) c.records' c.paths' c.nodes' x.slices (roomy c x) (both_asked c.options e).0 (both_asked c.options e).1,
       );
-      eoie_is_found = λ c x e. eoie.eoie_is_found sha1_kind c.records c.paths c.nodes c.names c.options c.out c.version c.size x.done (has_eoie_is c.records c.options ∙ e) ∙ ap (λ (n : ℕ). Offset (file_at n)) (offset_is id_size (lit≤ tt) c.records c.paths);
+      eoie_is_found = λ c x e. eoie.eoie_is_found sha1_kind c.records c.paths c.nodes c.names c.options c.out c.version c.size x.done (has_eoie_is c.records c.options ∙ e) ∙ ap (λ (n : ℕ). Some (file_at n)) (offset_is id_size (lit≤ tt) c.records c.paths);
     }
 
 pub finds : Finds lookup_at

@@ -1,6 +1,6 @@
 -- FRAUDS OF A WRITER FAIL demand 2: one that refuses all, one that never writes the hash, one that leaves TREE, `sdir` or EOIE out. Each is stated of every such writer, and then of the
 -- plainest by name: ours, which does not hear what is asked for. Assumes nothing.
-use Rattle.std.specs.Prelude.{ℕ, ◌-◌, ◌^◌, ◌≤◌, ◌<◌, ◌≡◌, true, false, List, [], ◌∷◌, ◌++◌, length, take, drop, replicate}
+use Rattle.std.specs.Prelude.{ℕ, ◌-◌, ◌^◌, ◌≤◌, ◌<◌, ◌≡◌, true, false, List, [], ◌∷◌, ◌++◌, length, take, drop, replicate, Ok, Result}
 use Rattle.std.proofs.Math.Path.{refl}
 use Rattle.std.proofs.Common.{sym, ap, ◌∙◌, true≢false, append_assoc, arith, lit<, length-append, drop_at}
 use Rattle.std.proofs.lemmas.Bool.{false≢true}
@@ -19,8 +19,6 @@ use Rattle.grammar.specs.Extension.{Ext, ext, sdir, TREE, Extensions, NoneSigned
 use Rattle.grammar.specs.File.{DIRC, Header, header, Trailer}
 use Rattle.write.specs.File as writing
 use Rattle.write.specs.declared.Options.{Options}
-use Rattle.write.specs.declared.Answer.{Answer}
-use Rattle.write.specs.declared.Answer.TheVariants.{Done}
 use Rattle.claims_write.specs.Meaning.{kept_from, PathsEnd}
 use Rattle.claims_write.specs.Tree.{total}
 use Rattle.claims_write.specs.Extensions.{EOIE}
@@ -32,10 +30,13 @@ use Rattle.claims_write.specs.Asked.{TreePart, tree_asked_lem, tree_not_asked, S
 use Rattle.claims_frauds.specs.Demands.{Reader, Writer, Lookup, Demand2}
 use Rattle.claims_frauds.specs.Ours.{writer, writer_answers}
 use Rattle.claims_frauds.specs.Witness as witness
+use Rattle.write.specs.Made.{written_with}
+use Rattle.write.specs.declared.Error.{Error as WriteError}
+use Rattle.write.specs.declared.Written.{Written}
 
 -- a writer that is done with another size than 01's
 sized_otherwise_fails : (write : Writer) (read : Reader) (lookup : Lookup) (rs : List ℕ) (ps : Paths) (ns nm : List ℕ) (o : Options) (out : List ℕ) (version size : ℕ)
-    → (write rs ps ns nm o out).answer ≡ Done version size → ¬ (size ≡ file_size id_size rs ps ns nm o) → ¬ Demand2 sha1_kind write read lookup
+    → (write rs ps ns nm o out).answer ≡ Ok (written_with version size) → ¬ (size ≡ file_size id_size rs ps ns nm o) → ¬ Demand2 sha1_kind write read lookup
 sized_otherwise_fails write read lookup rs ps ns nm o out version size e other demand = other (demand.answers.done_answers rs ps ns nm o out version size e).1
 
 -- ---- A WRITER THAT REFUSES ALL fails demand 2
@@ -47,14 +48,14 @@ refuses_to_write_fails write read lookup never demand =
     ((demand.answers.done_exactly table paths [] [] witness.plain (replicate 232 0)).1 (witness.may_be_written, witness.room_for_it))
 
 -- whatever it refuses with
-pub refuses_to_write_with_fails : (a : Answer) → ¬ IsDone a → (read : Reader) (lookup : Lookup) → ¬ Demand2 sha1_kind (λ rs ps ns nm o out. writing.outcome a out) read lookup
+pub refuses_to_write_with_fails : (a : Result Written WriteError) → ¬ IsDone a → (read : Reader) (lookup : Lookup) → ¬ Demand2 sha1_kind (λ rs ps ns nm o out. writing.outcome a out) read lookup
 refuses_to_write_with_fails a refusal read lookup = refuses_to_write_fails (λ rs ps ns nm o out. writing.outcome a out) read lookup (λ rs ps ns nm o out. refusal)
 
 -- ---- A WRITER THAT NEVER WRITES THE HASH fails demand 2: one whose files all end in zeros
 
 abbrev pub EndsInZeros : Writer → Type 0
 EndsInZeros write =
-    (rs : List ℕ) (ps : Paths) (ns nm : List ℕ) (o : Options) (out : List ℕ) (version size : ℕ) → (write rs ps ns nm o out).answer ≡ Done version size → length ns < 2 ^ 64
+    (rs : List ℕ) (ps : Paths) (ns nm : List ℕ) (o : Options) (out : List ℕ) (version size : ℕ) → (write rs ps ns nm o out).answer ≡ Ok (written_with version size) → length ns < 2 ^ 64
     → drop (size - id_size) (take size (write rs ps ns nm o out).out) ≡ replicate id_size 0
 
 -- 32 bits spell a small number in one way
@@ -169,7 +170,7 @@ pub record HasExtensions (s : List ℕ) (es : List Ext) : Type 0 where
 
 abbrev pub LeavesOut : List ℕ → Writer → Type 0
 LeavesOut signature write =
-    (rs : List ℕ) (ps : Paths) (ns nm : List ℕ) (o : Options) (out : List ℕ) (version size : ℕ) → (write rs ps ns nm o out).answer ≡ Done version size
+    (rs : List ℕ) (ps : Paths) (ns nm : List ℕ) (o : Options) (out : List ℕ) (version size : ℕ) → (write rs ps ns nm o out).answer ≡ Ok (written_with version size)
     → (es : List Ext) → HasExtensions (take size (write rs ps ns nm o out).out) es → NoneSigned signature es
 
 -- the extensions of a file that is as asked for

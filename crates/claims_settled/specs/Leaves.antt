@@ -60,13 +60,16 @@ put32_settled κs a z z' w w' = settled (λ o. (tt, (o, (tt, (tt, tt)))))
 pub put64_settled : Settles wire.put64.Kinds.ps wire.put64.Kinds.r wire.put64.Reads.Learnt
 put64_settled κs a z z' w w' = settled (λ o. (tt, (o, (tt, (tt, tt)))))
 
-pub seven_bit_settled : Settles wire.seven_bit.Kinds.ps wire.seven_bit.Kinds.r wire.seven_bit.Reads.Learnt
+pub part_first_nul_settled : Settles wire.Part.first_nul.Kinds.ps wire.Part.first_nul.Kinds.r wire.Part.first_nul.Reads.Learnt
+part_first_nul_settled κs a z z' w w' = settled (λ r. (r, w))
+
+pub seven_bit_settled : Settles wire.Part.seven_bit.Kinds.ps wire.Part.seven_bit.Kinds.r wire.Part.seven_bit.Reads.Learnt
 seven_bit_settled κs a z z' w w' = settled (λ r. (r, w))
 
-pub digits_settled : Settles wire.digits.Kinds.ps wire.digits.Kinds.r wire.digits.Reads.Learnt
+pub digits_settled : Settles wire.Part.digits.Kinds.ps wire.Part.digits.Kinds.r wire.Part.digits.Reads.Learnt
 digits_settled κs a z z' w w' = settled (λ r. (r, w))
 
-pub signed_digits_settled : Settles wire.signed_digits.Kinds.ps wire.signed_digits.Kinds.r wire.signed_digits.Reads.Learnt
+pub signed_digits_settled : Settles wire.Part.signed_digits.Kinds.ps wire.Part.signed_digits.Kinds.r wire.Part.signed_digits.Reads.Learnt
 signed_digits_settled κs a z z' w w' = settled (λ r. (r, w))
 
 pub decimal_size_settled : Settles wire.decimal_size.Kinds.ps wire.decimal_size.Kinds.r wire.decimal_size.Reads.Learnt

@@ -10,7 +10,7 @@ pub write_records_settled : Settles lines.write_records.Kinds.ps lines.write_rec
 write_records_settled κs a z z' w w' = settled (λ (o : Outcome). (o.size, (tt, (tt, (tt, (o.out, tt))))))
 
 pub write_refused_settled : Settles lines.write_refused.Kinds.ps lines.write_refused.Kinds.r lines.write_refused.Reads.Learnt
-write_refused_settled κs a z z' w w' = settled (λ (o : Outcome). (o.size, (tt, (tt, (tt, (o.out, tt))))))
+write_refused_settled κs a z z' w w' = settled (λ (o : Outcome). (o.size, (tt, (tt, (o.out, tt)))))
 
 -- ---- `list_text`
 

@@ -1,7 +1,7 @@
 -- WHAT EACH REFUSAL LEAVES (01, "When the desk says no", the third column), number by number: of all that a call can leave. Assumes that the file is bytes and that no
 -- slice has 2^64 bytes or more, the premise `Slices` of the reader's claims.
 use Prim.Native.Nat.{ℕ}
-use Rattle.std.specs.Prelude.{◌≡◌, refl, Bool, true, false, ltb, length, drop}
+use Rattle.std.specs.Prelude.{◌≡◌, refl, Bool, true, false, ltb, length, drop, Err, Ok, Result}
 use Rattle.std.proofs.Common.{sym, subst}
 use mathlib.Core.List.{List, ◌++◌}
 use Rattle.laws.specs.Pick.{pick}
@@ -13,13 +13,9 @@ use Rattle.access.proofs as access
 use Rattle.grammar.specs.Entry.{Meaning, start, Entries}
 use Rattle.grammar.specs.File.{version_of, count_of, space}
 use Rattle.file.specs.Read as file
-use Rattle.file.specs.declared.Answer.{Answer}
-use Rattle.file.specs.declared.Answer.TheVariants as answer
 use Rattle.write_entries.specs.Entries.{First, found, nowhere, first_fault, on_first}
 use Rattle.write.specs.File as write
 use Rattle.write.specs.declared.Options.{Options}
-use Rattle.write.specs.declared.Answer.{Answer as Wrote}
-use Rattle.write.specs.declared.Answer.TheVariants.{Done, PathOutside, NotProper, TooLarge, ShortOutput}
 use Rattle.claims_entries.specs.Rendering.{records_bytes, paths_bytes}
 use Rattle.claims_entries.specs.Said.{filled}
 use Rattle.claims_tree.specs.Said.{zeroed}
@@ -28,6 +24,13 @@ use Rattle.claims.specs.Said.{SaysFile, says_short, says_no_signature, says_othe
 use Rattle.claims.specs.Reading.{answer_says}
 use Rattle.claims_settled.specs.Law.{Stores}
 use Rattle.claims_settled.specs.Calls.{FileReadCall, file_read_answers, WriteToCall, write_to_answers}
+use Rattle.file.specs.declared.Error.TheVariants as answer
+use Rattle.file.specs.declared.Error.{Error as FileError}
+use Rattle.file.specs.declared.Reading.{Reading}
+use Rattle.write.specs.Made.{written_with}
+use Rattle.write.specs.declared.Error.{Error as WriteError}
+use Rattle.write.specs.declared.Error.TheVariants.{NotProper, PathOutside, ShortOutput, TooLarge}
+use Rattle.write.specs.declared.Written.{Written}
 
 -- ---- THE READER, 1 to 10
 
@@ -50,11 +53,11 @@ pub record FirstEntries (s rs ps : List ℕ) (k : ℕ) (nodes rs' ps' ns' : List
 
 module _ (s rs ps ns : List ℕ) (slices : Slices s ps ns) (rs' ps' ns' : List ℕ) where
   -- a call of `file::read` that answers a and leaves the three stores so
-  abbrev pub Leaves : Answer → Type 0
+  abbrev pub Leaves : Result Reading FileError → Type 0
   Leaves a = FileReadCall s rs ps ns a rs' ps' ns'
 
   -- whatever it answers and leaves is as the rule of that answer says
-  pub call_says : {a : Answer} → Leaves a → SaysFile sha1_kind s rs ps ns (file.outcome a rs' ps' ns')
+  pub call_says : {a : Result Reading FileError} → Leaves a → SaysFile sha1_kind s rs ps ns (file.outcome a rs' ps' ns')
   call_says c = subst (SaysFile sha1_kind s rs ps ns) (sym (file_read_answers c)) (answer_says sha1_kind s rs ps ns slices)
 
   abbrev pub Untouched : Type 0
@@ -64,67 +67,67 @@ module _ (s rs ps ns : List ℕ) (slices : Slices s ps ns) (rs' ps' ns' : List �
   Holds k nodes = FirstEntries s rs ps k nodes rs' ps' ns'
 
   -- 1 to 4: untouched
-  pub after_1 : Leaves answer.ShortFile → Untouched
+  pub after_1 : Leaves (Err answer.ShortFile) → Untouched
   after_1 e = to (call_says e)
     where
-      to : {r p n : List ℕ} → SaysFile sha1_kind s rs ps ns (file.outcome answer.ShortFile r p n) → AsTheyWere rs ps ns r p n
+      to : {r p n : List ℕ} → SaysFile sha1_kind s rs ps ns (file.outcome (Err answer.ShortFile) r p n) → AsTheyWere rs ps ns r p n
       to (says_short h) = record { records = refl; paths = refl; nodes = refl }
 
-  pub after_2 : Leaves answer.NoSignature → Untouched
+  pub after_2 : Leaves (Err answer.NoSignature) → Untouched
   after_2 e = to (call_says e)
     where
-      to : {r p n : List ℕ} → SaysFile sha1_kind s rs ps ns (file.outcome answer.NoSignature r p n) → AsTheyWere rs ps ns r p n
+      to : {r p n : List ℕ} → SaysFile sha1_kind s rs ps ns (file.outcome (Err answer.NoSignature) r p n) → AsTheyWere rs ps ns r p n
       to (says_no_signature h d) = record { records = refl; paths = refl; nodes = refl }
 
-  pub after_3 : (version : ℕ) → Leaves (answer.OtherVersion version) → Untouched
+  pub after_3 : (version : ℕ) → Leaves (Err (answer.OtherVersion version)) → Untouched
   after_3 version e = to (call_says e)
     where
-      to : {version : ℕ} {r p n : List ℕ} → SaysFile sha1_kind s rs ps ns (file.outcome (answer.OtherVersion version) r p n) → AsTheyWere rs ps ns r p n
+      to : {version : ℕ} {r p n : List ℕ} → SaysFile sha1_kind s rs ps ns (file.outcome (Err (answer.OtherVersion version)) r p n) → AsTheyWere rs ps ns r p n
       to (says_other_version h d f) = record { records = refl; paths = refl; nodes = refl }
 
-  pub after_4 : Leaves answer.BadTrailer → Untouched
+  pub after_4 : Leaves (Err answer.BadTrailer) → Untouched
   after_4 e = to (call_says e)
     where
-      to : {r p n : List ℕ} → SaysFile sha1_kind s rs ps ns (file.outcome answer.BadTrailer r p n) → AsTheyWere rs ps ns r p n
+      to : {r p n : List ℕ} → SaysFile sha1_kind s rs ps ns (file.outcome (Err answer.BadTrailer) r p n) → AsTheyWere rs ps ns r p n
       to (says_bad_trailer g t) = record { records = refl; paths = refl; nodes = refl }
 
   -- 5 and 6: the entries before k, rest untouched
-  pub after_5 : (k : ℕ) → Leaves (answer.NotSpelled k) → Holds k ns
+  pub after_5 : (k : ℕ) → Leaves (Err (answer.NotSpelled k)) → Holds k ns
   after_5 k e = to (call_says e)
     where
-      to : {k : ℕ} {r p n : List ℕ} → SaysFile sha1_kind s rs ps ns (file.outcome (answer.NotSpelled k) r p n) → FirstEntries s rs ps k ns r p n
+      to : {k : ℕ} {r p n : List ℕ} → SaysFile sha1_kind s rs ps ns (file.outcome (Err (answer.NotSpelled k)) r p n) → FirstEntries s rs ps k ns r p n
       to (says_not_spelled o {b = b} {ms = ms} rest h i x f none_left) = record { before = b; behind = rest; ms = ms; joins = i; spelled = x; records = refl; paths = refl; node_store = refl }
 
-  pub after_6 : (k : ℕ) → Leaves (answer.NoEntryRoom k) → Holds k ns
+  pub after_6 : (k : ℕ) → Leaves (Err (answer.NoEntryRoom k)) → Holds k ns
   after_6 k e = to (call_says e)
     where
-      to : {k : ℕ} {r p n : List ℕ} → SaysFile sha1_kind s rs ps ns (file.outcome (answer.NoEntryRoom k) r p n) → FirstEntries s rs ps k ns r p n
+      to : {k : ℕ} {r p n : List ℕ} → SaysFile sha1_kind s rs ps ns (file.outcome (Err (answer.NoEntryRoom k)) r p n) → FirstEntries s rs ps k ns r p n
       to (says_no_entry_room o {b = b} {ms = ms} rest q h i x f y lacks) = record { before = b; behind = rest; ms = ms; joins = i; spelled = x; records = refl; paths = refl; node_store = refl }
 
   -- 7 and 8: all entries, nodes untouched
-  pub after_7 : (place : ℕ) → Leaves (answer.NotFilled place) → Holds (count_of s) ns
+  pub after_7 : (place : ℕ) → Leaves (Err (answer.NotFilled place)) → Holds (count_of s) ns
   after_7 place e = to (call_says e)
     where
-      to : {place : ℕ} {r p n : List ℕ} → SaysFile sha1_kind s rs ps ns (file.outcome (answer.NotFilled place) r p n) → FirstEntries s rs ps (count_of s) ns r p n
+      to : {place : ℕ} {r p n : List ℕ} → SaysFile sha1_kind s rs ps ns (file.outcome (Err (answer.NotFilled place)) r p n) → FirstEntries s rs ps (count_of s) ns r p n
       to (says_not_filled o {b = b} {c = c} {ms = ms} a f) = record { before = b; behind = c; ms = ms; joins = a.joins; spelled = a.spelled; records = refl; paths = refl; node_store = refl }
 
-  pub after_8 : (signature : ℕ) → Leaves (answer.Mandatory signature) → Holds (count_of s) ns
+  pub after_8 : (signature : ℕ) → Leaves (Err (answer.Mandatory signature)) → Holds (count_of s) ns
   after_8 signature e = to (call_says e)
     where
-      to : {signature : ℕ} {r p n : List ℕ} → SaysFile sha1_kind s rs ps ns (file.outcome (answer.Mandatory signature) r p n) → FirstEntries s rs ps (count_of s) ns r p n
+      to : {signature : ℕ} {r p n : List ℕ} → SaysFile sha1_kind s rs ps ns (file.outcome (Err (answer.Mandatory signature)) r p n) → FirstEntries s rs ps (count_of s) ns r p n
       to (says_mandatory o {b = b} {c = c} {ms = ms} a f) = record { before = b; behind = c; ms = ms; joins = a.joins; spelled = a.spelled; records = refl; paths = refl; node_store = refl }
 
   -- 9 and 10: all entries, node store zeroed
-  pub after_9 : Leaves answer.TooDeep → Holds (count_of s) (zeroed ns)
+  pub after_9 : Leaves (Err answer.TooDeep) → Holds (count_of s) (zeroed ns)
   after_9 e = to (call_says e)
     where
-      to : {r p n : List ℕ} → SaysFile sha1_kind s rs ps ns (file.outcome answer.TooDeep r p n) → FirstEntries s rs ps (count_of s) (zeroed ns) r p n
+      to : {r p n : List ℕ} → SaysFile sha1_kind s rs ps ns (file.outcome (Err answer.TooDeep) r p n) → FirstEntries s rs ps (count_of s) (zeroed ns) r p n
       to (says_too_deep o {b = b} {c = c} {ms = ms} w d) = record { before = b; behind = c; ms = ms; joins = w.entries.joins; spelled = w.entries.spelled; records = refl; paths = refl; node_store = refl }
 
-  pub after_10 : Leaves answer.NoNodeRoom → Holds (count_of s) (zeroed ns)
+  pub after_10 : Leaves (Err answer.NoNodeRoom) → Holds (count_of s) (zeroed ns)
   after_10 e = to (call_says e)
     where
-      to : {r p n : List ℕ} → SaysFile sha1_kind s rs ps ns (file.outcome answer.NoNodeRoom r p n) → FirstEntries s rs ps (count_of s) (zeroed ns) r p n
+      to : {r p n : List ℕ} → SaysFile sha1_kind s rs ps ns (file.outcome (Err answer.NoNodeRoom) r p n) → FirstEntries s rs ps (count_of s) (zeroed ns) r p n
       to (says_no_node_room o {b = b} {c = c} {ms = ms} w u d) = record { before = b; behind = c; ms = ms; joins = w.entries.joins; spelled = w.entries.spelled; records = refl; paths = refl; node_store = refl }
 
 -- ---- LOOKUP AND ORDER CHECK, 11 to 13: nothing is lent to be written, so whatever they answer there is nothing that a call could leave otherwise
@@ -140,8 +143,8 @@ after_13 κs a w w' = refl
 module _ (rs : List ℕ) (ps : Paths) (ns nm : List ℕ) (o : Options) (out : List ℕ) where
   -- what writing comes to: it is done, or the output is as it was
   data Kept : write.Outcome → Type 0 where
-    done : (version size : ℕ) (out' : List ℕ) → Kept (write.outcome (Done version size) out')
-    refused : (a : Wrote) → Kept (write.outcome a out)
+    done : (version size : ℕ) (out' : List ℕ) → Kept (write.outcome (Ok (written_with version size)) out')
+    refused : (a : Result Written WriteError) → Kept (write.outcome a out)
 
   kept : Kept (write.write_all sha1_kind depth_limit rs ps ns nm o out)
   unfolding write.write_all write.write_file
@@ -154,42 +157,42 @@ module _ (rs : List ℕ) (ps : Paths) (ns nm : List ℕ) (o : Options) (out : Li
       whole = write.file_bytes sha1_kind depth_limit rs ps ns nm o
 
       by : (f : First) (t a b c : Bool)
-          → Kept (on_first f (λ i. write.outcome (PathOutside i) out) (pick t (pick a (write.outcome TooLarge out) (pick b (write.outcome TooLarge out) (pick c (write.outcome (ShortOutput (length whole)) out) (write.outcome (Done (write.version_of rs) (length whole)) (whole ++ drop (length whole) out))))) (write.outcome NotProper out)))
-      by (found i) t a b c = refused (PathOutside i)
-      by nowhere false a b c = refused NotProper
-      by nowhere true true b c = refused TooLarge
-      by nowhere true false true c = refused TooLarge
-      by nowhere true false false true = refused (ShortOutput (length whole))
+          → Kept (on_first f (λ i. write.outcome (Err (PathOutside i)) out) (pick t (pick a (write.outcome (Err TooLarge) out) (pick b (write.outcome (Err TooLarge) out) (pick c (write.outcome (Err (ShortOutput (length whole))) out) (write.outcome (Ok (written_with (write.version_of rs) (length whole))) (whole ++ drop (length whole) out))))) (write.outcome (Err NotProper) out)))
+      by (found i) t a b c = refused (Err (PathOutside i))
+      by nowhere false a b c = refused (Err NotProper)
+      by nowhere true true b c = refused (Err TooLarge)
+      by nowhere true false true c = refused (Err TooLarge)
+      by nowhere true false false true = refused (Err (ShortOutput (length whole)))
       by nowhere true false false false = done (write.version_of rs) (length whole) (whole ++ drop (length whole) out)
 
   module _ (out' : List ℕ) where
     -- a call of `write::write_to` that answers a and leaves the output so
-    abbrev pub Writes : Wrote → Type 0
+    abbrev pub Writes : Result Written WriteError → Type 0
     Writes a = WriteToCall rs ps ns nm o out a out'
 
-    says : {a : Wrote} → Writes a → Kept (write.outcome a out')
+    says : {a : Result Written WriteError} → Writes a → Kept (write.outcome a out')
     says c = subst Kept (sym (write_to_answers c)) kept
 
-    pub after_12 : (index : ℕ) → Writes (PathOutside index) → out' ≡ out
+    pub after_12 : (index : ℕ) → Writes (Err (PathOutside index)) → out' ≡ out
     after_12 index e = to (says e)
       where
-        to : {i : ℕ} {x : List ℕ} → Kept (write.outcome (PathOutside i) x) → x ≡ out
+        to : {i : ℕ} {x : List ℕ} → Kept (write.outcome (Err (PathOutside i)) x) → x ≡ out
         to (refused a) = refl
 
-    pub after_14 : (size : ℕ) → Writes (ShortOutput size) → out' ≡ out
+    pub after_14 : (size : ℕ) → Writes (Err (ShortOutput size)) → out' ≡ out
     after_14 size e = to (says e)
       where
-        to : {n : ℕ} {x : List ℕ} → Kept (write.outcome (ShortOutput n) x) → x ≡ out
+        to : {n : ℕ} {x : List ℕ} → Kept (write.outcome (Err (ShortOutput n)) x) → x ≡ out
         to (refused a) = refl
 
-    pub after_15 : Writes TooLarge → out' ≡ out
+    pub after_15 : Writes (Err TooLarge) → out' ≡ out
     after_15 e = to (says e)
       where
-        to : {x : List ℕ} → Kept (write.outcome TooLarge x) → x ≡ out
+        to : {x : List ℕ} → Kept (write.outcome (Err TooLarge) x) → x ≡ out
         to (refused a) = refl
 
-    pub after_16 : Writes NotProper → out' ≡ out
+    pub after_16 : Writes (Err NotProper) → out' ≡ out
     after_16 e = to (says e)
       where
-        to : {x : List ℕ} → Kept (write.outcome NotProper x) → x ≡ out
+        to : {x : List ℕ} → Kept (write.outcome (Err NotProper) x) → x ≡ out
         to (refused a) = refl

@@ -1,9 +1,8 @@
 -- The premises can be met, and matter: under every limit a chain of as many nodes is read into room for as many, room for one less gives 10,
 -- and a chain of one more gives 9. Assumes nothing.
-use Rattle.std.specs.Prelude.{ℕ, zero, suc, ◌+◌, ◌-◌, ◌*◌, ◌^◌, ◌<◌, ◌≡◌, refl, List, [], ◌∷◌, ◌++◌, length}
+use Rattle.std.specs.Prelude.{ℕ, zero, suc, ◌+◌, ◌-◌, ◌*◌, ◌^◌, ◌<◌, ◌≡◌, refl, List, [], ◌∷◌, ◌++◌, length, Err, Ok, Some}
 use Rattle.std.proofs.Common.{sym, subst, append-nil, arith, lit≤}
 use Rattle.std.proofs.Math.Seq.{take-length}
-use Rattle.tree.specs.declared.TreeAnswer.TheVariants.{Tree as IsTree, TooDeep, NoRoom}
 use Rattle.tree.specs.Tree.{read_tree}
 use Rattle.grammar.specs.Number.{Digit, Digits, last_digit, invalid, minus}
 use Rattle.grammar.specs.Entry.{empty, byte}
@@ -14,6 +13,7 @@ use Rattle.claims_tree.specs.Place.{part}
 use Rattle.claims_tree.specs.Rendering.{tree_bytes, filled}
 use Rattle.claims_tree.specs.Said.{zeroed, lent}
 use Rattle.claims_tree.specs.Claims.{stores_are_the_meaning, deeper_is_too_deep, larger_has_no_room}
+use Rattle.tree.specs.declared.Error.TheVariants.{NoRoom, TooDeep}
 
 -- "a", NUL, "-1", a space, "0" or "1", and a newline: an invalid node named a, with no subtree or with one
 abbrev head : ℕ → List ℕ
@@ -64,23 +64,23 @@ chain_length (suc k) = let e = chain_length k in omega arith
 -- the limit has k levels below the first; a chain of one more can be addressed
 module _ (k : ℕ) (short : suc (suc k) * 7 < 2 ^ 64) (ns : List ℕ) (small : Addressable ns) where
   -- both premises hold, and the chain is read
-  pub deepest_is_read : lent ns ≡ suc k → read_tree 20 (suc k) (chain k) 0 (length (chain k)) ns ≡ (IsTree (suc k), filled ns (tree_bytes (chain_at 0 k)))
+  pub deepest_is_read : lent ns ≡ suc k → read_tree 20 (suc k) (chain k) 0 (length (chain k)) ns ≡ (Ok (Some (suc k)), filled ns (tree_bytes (chain_at 0 k)))
   deepest_is_read room =
       let e = chain_length k in
       let d = chain_depth 0 k in
       let m = chain_nodes 0 k in
-      subst (λ (n : ℕ). read_tree 20 (suc k) (chain k) 0 (length (chain k)) ns ≡ (IsTree n, filled ns (tree_bytes (chain_at 0 k)))) m
+      subst (λ (n : ℕ). read_tree 20 (suc k) (chain k) 0 (length (chain k)) ns ≡ (Ok (Some n), filled ns (tree_bytes (chain_at 0 k)))) m
       (stores_are_the_meaning 20 (lit≤ tt) (suc k) (chain k) 0 (length (chain k)) ns (record { ahead = omega arith; inside = omega arith }) (omega arith) small
       ((depth_within 20 _ 0 (chain_at 0 k) (chain_there k) (suc k)).1 (omega arith)) ((nodes_within 20 _ 0 (chain_at 0 k) (chain_there k) (lent ns)).1 (omega arith)) (chain_at 0 k) (chain_there k))
 
-  pub room_for_one_less : lent ns ≡ k → read_tree 20 (suc k) (chain k) 0 (length (chain k)) ns ≡ (NoRoom, zeroed ns)
+  pub room_for_one_less : lent ns ≡ k → read_tree 20 (suc k) (chain k) 0 (length (chain k)) ns ≡ (Err NoRoom, zeroed ns)
   room_for_one_less room =
       let e = chain_length k in
       let d = chain_depth 0 k in
       let m = chain_nodes 0 k in
       larger_has_no_room 20 (lit≤ tt) (suc k) (chain k) 0 (length (chain k)) ns (record { ahead = omega arith; inside = omega arith }) (omega arith) small (chain_at 0 k) (chain_there k) (omega arith) (omega arith)
 
-  pub one_level_deeper : lent ns ≡ suc (suc k) → read_tree 20 (suc k) (chain (suc k)) 0 (length (chain (suc k))) ns ≡ (TooDeep, zeroed ns)
+  pub one_level_deeper : lent ns ≡ suc (suc k) → read_tree 20 (suc k) (chain (suc k)) 0 (length (chain (suc k))) ns ≡ (Err TooDeep, zeroed ns)
   one_level_deeper room =
       let e = chain_length (suc k) in
       let d = chain_depth 0 (suc k) in

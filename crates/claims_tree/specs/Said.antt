@@ -1,12 +1,12 @@
 -- What each answer of a reading of a cache tree says, over the grammar alone, and the premises of the claims, each a definition that names no reader's answer. n is the length
 -- of an id. Assumes nothing.
-use Rattle.std.specs.Prelude.{ℕ, suc, ◌≤◌, ◌≡◌, List, length, replicate}
+use Rattle.std.specs.Prelude.{ℕ, suc, ◌≤◌, ◌≡◌, List, length, replicate, Err, None, Ok, Option, Result, Some}
 use Rattle.node.specs.Store.{nodes_in}
-use Rattle.tree.specs.declared.TreeAnswer.{TreeAnswer}
-use Rattle.tree.specs.declared.TreeAnswer.TheVariants.{Tree as IsTree, Malformed, TooDeep, NoRoom}
 use Rattle.grammar.specs.Tree.{Tree, depth, nodes, Node}
 use Rattle.grammar.specs.Walk.{Reaches}
 use Rattle.claims_tree.specs.Rendering.{tree_bytes, filled}
+use Rattle.tree.specs.declared.Error.{Error as TreeError}
+use Rattle.tree.specs.declared.Error.TheVariants.{NoRoom, TooDeep}
 
 -- ---- the walk of a body, and the trees that it spells
 
@@ -48,11 +48,11 @@ zeroed store = replicate (length store) 0
 
 -- an answer, and the store that is left with it
 abbrev pub Left : Type 0
-Left = TreeAnswer × List ℕ
+Left = Result (Option ℕ) TreeError × List ℕ
 
 pub data SaysReadTree (n place : ℕ) (body : List ℕ) (limit : ℕ) (store : List ℕ) : Left → Type 0 where
-  says_tree : {t : Tree} → Node n place body t → depth t ≤ limit → nodes t ≤ lent store → SaysReadTree n place body limit store (IsTree (nodes t), filled store (tree_bytes t))
+  says_tree : {t : Tree} → Node n place body t → depth t ≤ limit → nodes t ≤ lent store → SaysReadTree n place body limit store (Ok (Some (nodes t)), filled store (tree_bytes t))
   -- "first met when the tree is walked in file order; where a node should begin 9, then 10, then its bytes"
-  says_too_deep : GoesTooDeep n body limit (lent store) → SaysReadTree n place body limit store (TooDeep, zeroed store)
-  says_no_room : UsesUp n body (lent store) → ¬ GoesTooDeep n body limit (lent store) → SaysReadTree n place body limit store (NoRoom, zeroed store)
-  says_malformed : ¬ SpellsTree n place body → ¬ GoesTooDeep n body limit (lent store) → ¬ UsesUp n body (lent store) → SaysReadTree n place body limit store (Malformed, zeroed store)
+  says_too_deep : GoesTooDeep n body limit (lent store) → SaysReadTree n place body limit store (Err TooDeep, zeroed store)
+  says_no_room : UsesUp n body (lent store) → ¬ GoesTooDeep n body limit (lent store) → SaysReadTree n place body limit store (Err NoRoom, zeroed store)
+  says_malformed : ¬ SpellsTree n place body → ¬ GoesTooDeep n body limit (lent store) → ¬ UsesUp n body (lent store) → SaysReadTree n place body limit store (Ok None, zeroed store)

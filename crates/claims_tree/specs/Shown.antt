@@ -1,6 +1,6 @@
 -- What a reading of a cache tree leaves, through the accessors: each node of the store shows its node's meaning, by the number that file order gives it, with its name where it
 -- stands in the file. Assumes that the part lies in the file, that an id fits its place in the store, and that 64 bits address each byte of file and store, each a premise.
-use Rattle.std.specs.Prelude.{ℕ, ◌+◌, ◌-◌, ◌*◌, ◌/◌, ◌^◌, ◌≤◌, ◌<◌, ◌≡◌, refl, take, replicate}
+use Rattle.std.specs.Prelude.{ℕ, ◌+◌, ◌-◌, ◌*◌, ◌/◌, ◌^◌, ◌≤◌, ◌<◌, ◌≡◌, refl, take, replicate, Ok, Some}
 use Rattle.std.proofs.Math.Path.{sym, ap}
 use Rattle.std.proofs.Common.{◌∙◌, subst, add_assoc, lit≤, length-drop, drop-drop, take_at, get_or-drop, lt-ltb}
 use mathlib.Core.List.{List, [], ◌∷◌, ◌++◌, append_assoc, append-nil}
@@ -13,7 +13,6 @@ use Rattle.node.specs.declared.Node.{Node as Fields}
 use Rattle.node.specs.Head.{minus_one}
 use Rattle.node.specs.Store.{nodes_in, numbers_of, id_of, node_of, word_at, name_start_at, name_end_at, count_at, subtrees_at, parent_at, id_at, name_at}
 use Rattle.node.specs.Laws.{length_numbers, length_node, start_found, stop_found, count_found, subtrees_found, parent_found, name_part}
-use Rattle.tree.specs.declared.TreeAnswer.TheVariants.{Tree as IsTree}
 use Rattle.tree.specs.Tree.{read_tree}
 use Rattle.grammar.specs.Number.{Count, Signed, plain, plus, minus_zero_lem, minus}
 use Rattle.grammar.specs.Tree.{Tree, tree, Subtrees, childless, beside, nodes, nodes_of, Id, of_tree, no_id, Head, NodeHead, node_head, Node, node, Nodes, no_node, one_node_lem}
@@ -173,7 +172,7 @@ module _ (n : ℕ) (fits : n ≤ 32) where
 
 module _ (n : ℕ) (fits : n ≤ id_room) (limit : ℕ) (s : List ℕ) (start end : ℕ) (ns : List ℕ) (lies_in : SpaceIn s start end) (short : Addressable s) (small : Addressable ns) where
   -- what is read is shown: the tree that is spelled, its root node 0
-  pub read_is_shown : (k : ℕ) (ms : List ℕ) → read_tree n limit s start end ns ≡ (IsTree k, ms) → (t : Tree) × Node n start (part s start end) t × (k ≡ nodes t) × ShowsTree s ms minus_one 0 t
+  pub read_is_shown : (k : ℕ) (ms : List ℕ) → read_tree n limit s start end ns ≡ (Ok (Some k), ms) → (t : Tree) × Node n start (part s start end) t × (k ≡ nodes t) × ShowsTree s ms minus_one 0 t
   read_is_shown k ms q =
       let (t, x, h, l, e, f) = read_is_spelled n fits limit s start end ns lies_in short small k ms q in
       let size : length (tree_bytes t) ≡ nodes t * 72 = tree_length n fits t x minus_one 0 in

@@ -59,4 +59,4 @@ module _ {s ns : List ℕ} {me : ℕ} where
     where
       go : (t : Bool) → siblings_differ s ns me (me + 1) u ≡ t → IsDistinct names t
       go true e = is_distinct (distinct_names c (differ_distinct s ns me (me + 1) u e))
-      go false e = repeated (λ d. let f = distinct_differ s ns me (me + 1) u (distinct_at d c) in let z : ◌≡◌ {A = ℕ} 0 1 = cc in omega arith)
+      go false e = repeated (λ d. let f = distinct_differ s ns me (me + 1) u (distinct_at d c) in cc)

@@ -2,7 +2,7 @@
 -- is to be written, the limits hold and there is room, and then it answers the version and the size; and 12, 16, 15 and 14, tried in this order, each exactly when. In 01's words over the
 -- tables and what is asked for; `Sizes` says how long a file is. Assumes nothing.
 use Prim.Native.Nat.{ℕ, zero, suc, ◌+◌, ◌-◌, ◌^◌, ◌≤◌, ◌<◌}
-use Rattle.std.specs.Prelude.{◌≡◌, Bool, List, ◌++◌, ◌⊎◌, ◌↔◌, ltb, drop}
+use Rattle.std.specs.Prelude.{◌≡◌, Bool, List, ◌++◌, ◌⊎◌, ◌↔◌, ltb, drop, Err, Ok, Result}
 use Rattle.std.proofs.Math.Path.{refl, ap, subst}
 use Rattle.std.proofs.Common.{sym, ◌∙◌, inl, inr}
 use Rattle.std.proofs.Math.Bool.{true, false, true≢false}
@@ -20,13 +20,15 @@ use Rattle.access.specs.Sorted.{Lies, lies_yes, yes_lies}
 use Rattle.proper.specs.Proper.{is_proper}
 use Rattle.proper.specs.Table.{Proper, proper_exactly}
 use Rattle.write.specs.declared.Options.{Options}
-use Rattle.write.specs.declared.Answer.{Answer}
-use Rattle.write.specs.declared.Answer.TheVariants.{Done, PathOutside, NotProper, TooLarge, ShortOutput}
 use Rattle.write_entries.specs.Entries.{fault_of, before_at, any_extended, First, found, nowhere, first_fault, on_first}
 use Rattle.write.specs.File.{version_of, writes_tree, tree_fits, body_bytes, file_bytes, Outcome, outcome, most, write_file, write_all}
 use Rattle.claims_write.specs.ProperTable.{ProperTable, proper_exactly_in_words}
 use Rattle.claims_write.specs.Sizes.{tree_asked, size_before_eoie, file_size}
 use Rattle.claims_write.specs.Lengths.{writes_tree_is, body_length, file_length}
+use Rattle.write.specs.Made.{written_with}
+use Rattle.write.specs.declared.Error.{Error as WriteError}
+use Rattle.write.specs.declared.Error.TheVariants.{NotProper, PathOutside, ShortOutput, TooLarge}
+use Rattle.write.specs.declared.Written.{Written}
 
 -- ---- THE WORDS
 
@@ -58,8 +60,8 @@ pub data Version (rs : List ℕ) : ℕ → Type 0 where
   three : {i : ℕ} → i < records_in rs → bit extended (flags_at rs i) ≡ true → Version rs 3
   two : ((i : ℕ) → i < records_in rs → bit extended (flags_at rs i) ≡ false) → Version rs 2
 
-abbrev pub IsDone : Answer → Type 0
-IsDone a = (version size : ℕ) × (a ≡ Done version size)
+abbrev pub IsDone : Result Written WriteError → Type 0
+IsDone a = (version size : ℕ) × (a ≡ Ok (written_with version size))
 
 module _ (kind : Kind) where
   -- "over 2^32 - 1 records, or bytes before EOIE's place"
@@ -78,13 +80,13 @@ module _ (kind : Kind) where
 
   -- ---- what is said of each answer
 
-  pub data Says (rs : List ℕ) (ps : Paths) (ns nm : List ℕ) (o : Options) (out : List ℕ) : Answer → Type 0 where
-    says_outside : {i : ℕ} → FirstOutside rs ps i → Says rs ps ns nm o out (PathOutside i)
-    says_not_proper : PathsInside rs ps → tree_asked o ≡ true → ¬ ProperTable depth_limit ns nm → Says rs ps ns nm o out NotProper
-    says_too_large : PathsInside rs ps → ProperIfAsked ns nm o → OverTheLimits rs ps ns nm o → Says rs ps ns nm o out TooLarge
-    says_short : MayBeWritten rs ps ns nm o → length out < file_size kind.id rs ps ns nm o → Says rs ps ns nm o out (ShortOutput (file_size kind.id rs ps ns nm o))
+  pub data Says (rs : List ℕ) (ps : Paths) (ns nm : List ℕ) (o : Options) (out : List ℕ) : Result Written WriteError → Type 0 where
+    says_outside : {i : ℕ} → FirstOutside rs ps i → Says rs ps ns nm o out (Err (PathOutside i))
+    says_not_proper : PathsInside rs ps → tree_asked o ≡ true → ¬ ProperTable depth_limit ns nm → Says rs ps ns nm o out (Err NotProper)
+    says_too_large : PathsInside rs ps → ProperIfAsked ns nm o → OverTheLimits rs ps ns nm o → Says rs ps ns nm o out (Err TooLarge)
+    says_short : MayBeWritten rs ps ns nm o → length out < file_size kind.id rs ps ns nm o → Says rs ps ns nm o out (Err (ShortOutput (file_size kind.id rs ps ns nm o)))
     says_done : {version : ℕ} → MayBeWritten rs ps ns nm o → file_size kind.id rs ps ns nm o ≤ length out → Version rs version
-        → Says rs ps ns nm o out (Done version (file_size kind.id rs ps ns nm o))
+        → Says rs ps ns nm o out (Ok (written_with version (file_size kind.id rs ps ns nm o)))
 
   -- ---- the first record outside
 
@@ -198,7 +200,7 @@ module _ (kind : Kind) where
     whole = file_bytes kind depth_limit rs ps ns nm o
 
     abbrev last : Bool → Bool → Bool → Outcome
-    last a b c = pick a (outcome TooLarge out) (pick b (outcome TooLarge out) (pick c (outcome (ShortOutput (length whole)) out) (outcome (Done (version_of rs) (length whole)) (whole ++ drop (length whole) out))))
+    last a b c = pick a (outcome (Err TooLarge) out) (pick b (outcome (Err TooLarge) out) (pick c (outcome (Err (ShortOutput (length whole))) out) (outcome (Ok (written_with (version_of rs) (length whole))) (whole ++ drop (length whole) out))))
 
     answer_says : Says rs ps ns nm o out writing.answer
     unfolding write_all write_file
@@ -209,16 +211,16 @@ module _ (kind : Kind) where
 
         by : {f : First} {t a b c : Bool} → FirstIs rs ps (records_in rs) 0 f → Fits ns nm o t
             → Less most (records_in rs) a → Less most (length body) b → Less (length out) (length whole) c
-            → Says rs ps ns nm o out (on_first f (λ i. outcome (PathOutside i) out) (pick t (last a b c) (outcome NotProper out))).answer
+            → Says rs ps ns nm o out (on_first f (λ i. outcome (Err (PathOutside i)) out) (pick t (last a b c) (outcome (Err NotProper) out))).answer
         by (is_found x) p q r s = says_outside x
         by (is_nowhere x) (fits_not w p) q r s = says_not_proper (all_inside rs ps x) w p
         by (is_nowhere x) (fits p) (less q) r s = says_too_large (all_inside rs ps x) p (inl (omega arith))
         by (is_nowhere x) (fits p) (not_less q) (less r) s = says_too_large (all_inside rs ps x) p (inr (omega (arith, body_length kind rs ps ns nm o (tested ns nm o p))))
         by (is_nowhere x) (fits p) (not_less q) (not_less r) (less s) =
-            subst (λ (n : ℕ). Says rs ps ns nm o out (ShortOutput n)) (sym (file_length kind rs ps ns nm o (tested ns nm o p)))
+            subst (λ (n : ℕ). Says rs ps ns nm o out (Err (ShortOutput n))) (sym (file_length kind rs ps ns nm o (tested ns nm o p)))
             (says_short (may (all_inside rs ps x) p q r) (omega (arith, file_length kind rs ps ns nm o (tested ns nm o p))))
         by (is_nowhere x) (fits p) (not_less q) (not_less r) (not_less s) =
-            subst (λ (n : ℕ). Says rs ps ns nm o out (Done (version_of rs) n)) (sym (file_length kind rs ps ns nm o (tested ns nm o p)))
+            subst (λ (n : ℕ). Says rs ps ns nm o out (Ok (written_with (version_of rs) n))) (sym (file_length kind rs ps ns nm o (tested ns nm o p)))
             (says_done (may (all_inside rs ps x) p q r) (omega (arith, file_length kind rs ps ns nm o (tested ns nm o p))) (version_says rs))
 
     -- no two answers are said
@@ -234,8 +236,8 @@ module _ (kind : Kind) where
     not_over (inl h) l = omega (arith, l.records)
     not_over (inr h) l = omega (arith, l.bytes)
 
-    pub no_second_answer : {a b : Answer} → Says rs ps ns nm o out a → Says rs ps ns nm o out b → a ≡ b
-    no_second_answer (says_outside x) (says_outside y) = ap PathOutside (first_once x y)
+    pub no_second_answer : {a b : Result Written WriteError} → Says rs ps ns nm o out a → Says rs ps ns nm o out b → a ≡ b
+    no_second_answer (says_outside x) (says_outside y) = ap (λ (k : ℕ). Err (PathOutside k)) (first_once x y)
     no_second_answer (says_outside x) (says_not_proper q w p) = absurd (not_both x q)
     no_second_answer (says_outside x) (says_too_large q p l) = absurd (not_both x q)
     no_second_answer (says_outside x) (says_short m s) = absurd (not_both x m.inside)
@@ -259,56 +261,56 @@ module _ (kind : Kind) where
     no_second_answer (says_done m s v) (says_not_proper q w p) = absurd (p (m.proper w))
     no_second_answer (says_done m s v) (says_too_large q p l) = absurd (not_over l m.limits)
     no_second_answer (says_done m s v) (says_short m₁ s₁) = absurd (omega arith)
-    no_second_answer (says_done m s v) (says_done m₁ s₁ w) = ap (λ (n : ℕ). Done n (file_size kind.id rs ps ns nm o)) (one_version rs v w)
+    no_second_answer (says_done m s v) (says_done m₁ s₁ w) = ap (λ (n : ℕ). Ok (written_with n (file_size kind.id rs ps ns nm o))) (one_version rs v w)
 
-    told : {a : Answer} → writing.answer ≡ a → Says rs ps ns nm o out a
+    told : {a : Result Written WriteError} → writing.answer ≡ a → Says rs ps ns nm o out a
     told e = subst (Says rs ps ns nm o out) e answer_says
 
-    gives : {a : Answer} → Says rs ps ns nm o out a → writing.answer ≡ a
+    gives : {a : Result Written WriteError} → Says rs ps ns nm o out a → writing.answer ≡ a
     gives x = no_second_answer answer_says x
 
     -- ---- THE THEOREMS
 
     -- an answer is given exactly when it is said
-    pub answer_exactly : (a : Answer) → (writing.answer ≡ a) ↔ Says rs ps ns nm o out a
+    pub answer_exactly : (a : Result Written WriteError) → (writing.answer ≡ a) ↔ Says rs ps ns nm o out a
     answer_exactly a = (told, gives)
 
     -- SUCCESS IS A CONCLUSION: what may be written and has room is written
     pub done_exactly : IsDone writing.answer ↔ (MayBeWritten rs ps ns nm o × (file_size kind.id rs ps ns nm o ≤ length out))
     done_exactly = ((λ (version, size, e). to (told e)), (λ (m, s). (version_of rs, file_size kind.id rs ps ns nm o, gives (says_done m s (version_says rs)))))
       where
-        to : {version size : ℕ} → Says rs ps ns nm o out (Done version size) → MayBeWritten rs ps ns nm o × (file_size kind.id rs ps ns nm o ≤ length out)
+        to : {version size : ℕ} → Says rs ps ns nm o out (Ok (written_with version size)) → MayBeWritten rs ps ns nm o × (file_size kind.id rs ps ns nm o ≤ length out)
         to (says_done m s v) = (m, s)
 
     -- and then the writer answers version and size
-    pub done_answers : (version size : ℕ) → writing.answer ≡ Done version size → Version rs version × (size ≡ file_size kind.id rs ps ns nm o)
+    pub done_answers : (version size : ℕ) → writing.answer ≡ Ok (written_with version size) → Version rs version × (size ≡ file_size kind.id rs ps ns nm o)
     done_answers version size e = to (told e)
       where
-        to : {version size : ℕ} → Says rs ps ns nm o out (Done version size) → Version rs version × (size ≡ file_size kind.id rs ps ns nm o)
+        to : {version size : ℕ} → Says rs ps ns nm o out (Ok (written_with version size)) → Version rs version × (size ≡ file_size kind.id rs ps ns nm o)
         to (says_done m s v) = (v, refl)
 
-    pub refusal_12_exactly : (i : ℕ) → (writing.answer ≡ PathOutside i) ↔ FirstOutside rs ps i
+    pub refusal_12_exactly : (i : ℕ) → (writing.answer ≡ Err (PathOutside i)) ↔ FirstOutside rs ps i
     refusal_12_exactly i = ((λ e. to (told e)), (λ x. gives (says_outside x)))
       where
-        to : {i : ℕ} → Says rs ps ns nm o out (PathOutside i) → FirstOutside rs ps i
+        to : {i : ℕ} → Says rs ps ns nm o out (Err (PathOutside i)) → FirstOutside rs ps i
         to (says_outside x) = x
 
-    pub refusal_16_exactly : (writing.answer ≡ NotProper) ↔ (PathsInside rs ps × (tree_asked o ≡ true) × ¬ ProperTable depth_limit ns nm)
+    pub refusal_16_exactly : (writing.answer ≡ Err NotProper) ↔ (PathsInside rs ps × (tree_asked o ≡ true) × ¬ ProperTable depth_limit ns nm)
     refusal_16_exactly = ((λ e. to (told e)), (λ (q, w, p). gives (says_not_proper q w p)))
       where
-        to : Says rs ps ns nm o out NotProper → PathsInside rs ps × (tree_asked o ≡ true) × ¬ ProperTable depth_limit ns nm
+        to : Says rs ps ns nm o out (Err NotProper) → PathsInside rs ps × (tree_asked o ≡ true) × ¬ ProperTable depth_limit ns nm
         to (says_not_proper q w p) = (q, w, p)
 
-    pub refusal_15_exactly : (writing.answer ≡ TooLarge) ↔ (PathsInside rs ps × ProperIfAsked ns nm o × OverTheLimits rs ps ns nm o)
+    pub refusal_15_exactly : (writing.answer ≡ Err TooLarge) ↔ (PathsInside rs ps × ProperIfAsked ns nm o × OverTheLimits rs ps ns nm o)
     refusal_15_exactly = ((λ e. to (told e)), (λ (q, p, l). gives (says_too_large q p l)))
       where
-        to : Says rs ps ns nm o out TooLarge → PathsInside rs ps × ProperIfAsked ns nm o × OverTheLimits rs ps ns nm o
+        to : Says rs ps ns nm o out (Err TooLarge) → PathsInside rs ps × ProperIfAsked ns nm o × OverTheLimits rs ps ns nm o
         to (says_too_large q p l) = (q, p, l)
 
-    pub refusal_14_exactly : (size : ℕ) → (writing.answer ≡ ShortOutput size) ↔ (MayBeWritten rs ps ns nm o × (size ≡ file_size kind.id rs ps ns nm o) × (length out < size))
-    refusal_14_exactly size = ((λ e. to (told e)), (λ (m, e, s). gives (says_short m (omega arith)) ∙ ap ShortOutput (sym e)))
+    pub refusal_14_exactly : (size : ℕ) → (writing.answer ≡ Err (ShortOutput size)) ↔ (MayBeWritten rs ps ns nm o × (size ≡ file_size kind.id rs ps ns nm o) × (length out < size))
+    refusal_14_exactly size = ((λ e. to (told e)), (λ (m, e, s). gives (says_short m (omega arith)) ∙ ap (λ (k : ℕ). Err (ShortOutput k)) (sym e)))
       where
-        to : {size : ℕ} → Says rs ps ns nm o out (ShortOutput size) → MayBeWritten rs ps ns nm o × (size ≡ file_size kind.id rs ps ns nm o) × (length out < size)
+        to : {size : ℕ} → Says rs ps ns nm o out (Err (ShortOutput size)) → MayBeWritten rs ps ns nm o × (size ≡ file_size kind.id rs ps ns nm o) × (length out < size)
         to (says_short m s) = (m, refl, s)
 
     -- a writer that is not done leaves the output as it was
@@ -317,8 +319,8 @@ module _ (kind : Kind) where
     refused_leaves_the_output = by (first_fault rs ps (records_in rs) 0) (tree_fits depth_limit ns nm (writes_tree o)) (ltb most (records_in rs)) (ltb most (length body)) (ltb (length out) (length whole))
       where
         by : (f : First) (t a b c : Bool)
-            → ¬ IsDone (on_first f (λ i. outcome (PathOutside i) out) (pick t (last a b c) (outcome NotProper out))).answer
-            → (on_first f (λ i. outcome (PathOutside i) out) (pick t (last a b c) (outcome NotProper out))).out ≡ out
+            → ¬ IsDone (on_first f (λ i. outcome (Err (PathOutside i)) out) (pick t (last a b c) (outcome (Err NotProper) out))).answer
+            → (on_first f (λ i. outcome (Err (PathOutside i)) out) (pick t (last a b c) (outcome (Err NotProper) out))).out ≡ out
         by (found i) t a b c n = refl
         by nowhere false a b c n = refl
         by nowhere true true b c n = refl

@@ -2,7 +2,7 @@
 -- `sdir` and EOIE, each exactly as asked for, once and in this order, and nothing else; and the hash, or zeros exactly as asked for. Over the grammar's extensions and what is asked
 -- for. Assumes that the node table has fewer than 2^64 bytes, as every slice has.
 use Prim.Native.Nat.{ℕ, zero, suc, ◌+◌, ◌*◌, ◌^◌, min, ◌≤◌, ◌<◌}
-use Rattle.std.specs.Prelude.{◌≡◌, ◌⊎◌, drop}
+use Rattle.std.specs.Prelude.{◌≡◌, ◌⊎◌, drop, Ok}
 use Rattle.std.proofs.Math.Path.{refl, ap, subst}
 use Rattle.std.proofs.Common.{sym, ◌∙◌, true≢false, inl, inr, ⊎_elim, lit<, length-append, length-drop, drop_at}
 use Rattle.std.proofs.Math.Bool.{Bool, true, false}
@@ -25,7 +25,6 @@ use Rattle.grammar.specs.File.{Index, header_length, Header, directory_mode, Som
 use Rattle.claims_entries.specs.Rendering.{sparse_tells}
 use Rattle.claims.specs.Claims.{has_tree}
 use Rattle.write.specs.declared.Options.{Options}
-use Rattle.write.specs.declared.Answer.TheVariants.{Done}
 use Rattle.write_entries.specs.Entries.{is_gone, stated, fixed_of, front_at, flag_bytes, pad_of, entry_of, record_bytes, entries_bytes, kept_of as keptHere, count_of, table_bytes}
 use Rattle.write_entries.specs.Size.{length_front}
 use Rattle.write.specs.File.{header_of, version_of, extension_head, extensions_for, writes_other, contents, eoie_part, trailer_of, offset_of, closed_of, writes_tree, has_eoie, write_all}
@@ -37,6 +36,7 @@ use Rattle.claims_write.specs.Spelled.{tree_body, tree_place, tree_meant, index_
 use Rattle.claims_write.specs.Trees.{written_tree_is_spelled, tree_is_meant}
 use Rattle.claims_write.specs.Sizes.{tree_asked, padding_size, entries_size}
 use Rattle.claims_write.specs.Lengths.{fixed_is, table_length, writes_tree_is}
+use Rattle.write.specs.Made.{written_with}
 
 module _ (kind : Kind) where
   -- ---- THE WORDS
@@ -205,7 +205,7 @@ module _ (kind : Kind) where
 
   -- ---- THE THEOREMS
 
-  module _ (rs : List ℕ) (ps : Paths) (ns nm : List ℕ) (o : Options) (out : List ℕ) (version size : ℕ) (done : (write_all kind depth_limit rs ps ns nm o out).answer ≡ Done version size) where
+  module _ (rs : List ℕ) (ps : Paths) (ns nm : List ℕ) (o : Options) (out : List ℕ) (version size : ℕ) (done : (write_all kind depth_limit rs ps ns nm o out).answer ≡ Ok (written_with version size)) where
     tree_is : length ns < 2 ^ 64 → TreePart o (tree_place kind rs ps) (pick (writes_tree o) (ext TREE (tree_body kind ns nm) ∷ []) [])
     tree_is few = by (writes_tree o) refl
       where

@@ -1,7 +1,7 @@
 -- DEMAND 2: what the writer writes reads back. The reader, on the first `size` bytes of the output and with stores that are large enough, accepts, answers the version,
 -- and its records show the table's, in order, without those marked REMOVE; and it stores the tree. Over all tables, both versions, with or without TREE, `sdir`, EOIE and hash. Assumes
 -- that the file is bytes and that no slice has 2^64 bytes or more, premises with names.
-use Rattle.std.specs.Prelude.{ℕ, ◌+◌, ◌*◌, ◌/◌, ◌%◌, ◌^◌, ◌≤◌, ◌<◌, ◌≡◌, refl, Bool, true, false, List, length}
+use Rattle.std.specs.Prelude.{ℕ, ◌+◌, ◌*◌, ◌/◌, ◌%◌, ◌^◌, ◌≤◌, ◌<◌, ◌≡◌, refl, Bool, true, false, List, length, Ok}
 use Rattle.std.proofs.Common.{sym, ◌∙◌, subst, arith}
 use Rattle.std.proofs.Math.Path.{ap}
 use Rattle.std.proofs.Math.Option.{Option, none, some}
@@ -19,7 +19,6 @@ use Rattle.grammar.specs.Tree.{Tree}
 use Rattle.grammar.proofs.DecideTree.{read_tree}
 use Rattle.grammar.specs.File.{Index}
 use Rattle.file.specs.Read.{Outcome, read_file}
-use Rattle.file.specs.declared.Answer.TheVariants.{Read}
 use Rattle.claims_entries.specs.Rendering.{paths_bytes}
 use Rattle.claims_entries.specs.Said.{filled, Fits}
 use Rattle.claims_entries.specs.Fields.{Shows}
@@ -27,13 +26,14 @@ use Rattle.claims.specs.Premises.{Slices}
 use Rattle.claims_tree.specs.Rendering.{tree_bytes}
 use Rattle.claims.specs.Claims.{has_tree, nodes_of, NodesAfter, the_tree, Renders}
 use Rattle.write.specs.declared.Options.{Options}
-use Rattle.write.specs.declared.Answer.TheVariants.{Done}
 use Rattle.write.specs.File.{writes_tree, write_all}
 use Rattle.claims_write.specs.Meaning.{stat_of, written_flags, meaning_of, kept_of, meanings_of, PathsEnd, MarksFit, Writable, WritableTable, NoneRemoved, SameEntry}
 use Rattle.claims_write.specs.Spelled.{tree_body, tree_place, index_of, written, done_says, file_in, file_is}
 use Rattle.claims_write.specs.Reading.{TreeRoom, renders_w, shown_w}
 use Rattle.claims_write.specs.Kept.{at_map, kept_is, kept_here}
 use Rattle.claims_write.specs.Trees.{tree_written, tree_is_meant, written_tree_nodes, room_for_tree}
+use Rattle.file.specs.Made.{read_with_all}
+use Rattle.write.specs.Made.{written_with}
 
 -- ---- the flags
 
@@ -78,7 +78,7 @@ module _ (kind : Kind) where
 
   -- ---- THE THEOREMS
 
-  module _ (rs : List ℕ) (ps : Paths) (ns nm : List ℕ) (o : Options) (out : List ℕ) (version size : ℕ) (done : (write_all kind depth_limit rs ps ns nm o out).answer ≡ Done version size) (few : length ns < 2 ^ 64) (ends : PathsEnd rs ps)
+  module _ (rs : List ℕ) (ps : Paths) (ns nm : List ℕ) (o : Options) (out : List ℕ) (version size : ℕ) (done : (write_all kind depth_limit rs ps ns nm o out).answer ≡ Ok (written_with version size)) (few : length ns < 2 ^ 64) (ends : PathsEnd rs ps)
       (records' paths' nodes' : List ℕ) where
     -- the written file, and what the reader makes of it
     abbrev pub bytes : List ℕ
@@ -125,12 +125,12 @@ module _ (kind : Kind) where
           by false e = ap nodes_of (ap (λ (t : Bool). pick t (read_tree kind.id (tree_place kind rs ps) (tree_body kind ns nm)) none) e)
 
       -- it is read: the version that the writer answered, sparse as asked or by a directory, a tree exactly if TREE was written, as many records as were written, and as many nodes as the table has
-      pub reads_back : reading.answer ≡ Read version index.sparse (writes_tree o) (length (kept_of rs)) (length (paths_bytes (meanings_of kind.id rs ps))) (pick (writes_tree o) (nodes_in ns) 0)
+      pub reads_back : reading.answer ≡ Ok (read_with_all version index.sparse (writes_tree o) (length (kept_of rs)) (length (paths_bytes (meanings_of kind.id rs ps))) (pick (writes_tree o) (nodes_in ns) 0))
       reads_back =
           let d = done_says kind rs ps ns nm o out version size done in
           let c : length (meanings_of kind.id rs ps) ≡ length (kept_of rs) = length-map (kept_of rs) (meaning_of kind.id rs ps) in
           let v = d.version_is in
-          written_renders.answer ∙ (λ j. Read (sym v j) index.sparse (tree_told j) (c j) (length (paths_bytes (meanings_of kind.id rs ps))) (nodes_told_lem j))
+          written_renders.answer ∙ (λ j. Ok (read_with_all (sym v j) index.sparse (tree_told j) (c j) (length (paths_bytes (meanings_of kind.id rs ps))) (nodes_told_lem j)))
 
       -- record j shows the meaning of the j-th record that was written
       pub shows_written : (j i : ℕ) → get_elem? (kept_of rs) j ≡ some i → Shows kind.id reading.records (lying_in reading.paths) j (meaning_of kind.id rs ps i)

@@ -6,7 +6,7 @@ use Rattle.std.proofs.Math.Bool.{Bool, true, false}
 use mathlib.Core.List.{List, [], ◌∷◌, ◌++◌, append_assoc, flatten}
 use native.Mathlib.Omega.{arith}
 use Rattle.std.proofs.Math.Dec.{lit<}
-use Rattle.std.specs.Prelude.{ltb, drop}
+use Rattle.std.specs.Prelude.{ltb, drop, Ok, Some}
 use Rattle.std.proofs.Math.ListN.{length, take, length-append}
 use Rattle.laws.specs.Pick.{pick}
 use Rattle.wire.specs.BigEndian.{be_at, bytes_of, length-bytes, be_left, be_right, be_bytes}
@@ -19,15 +19,14 @@ use Rattle.extension.specs.Iter.{Found, filled}
 use Rattle.extension.specs.EndOfIndexEntry.{headers_of, offset_in}
 use Rattle.extension.specs.Theorems.{Chain, chain_filled, chain_more}
 use Rattle.extension.proofs.Telling.{beginning, Tells, tells_told}
-use Rattle.extension.specs.declared.end_of_index_entry.Told.TheVariants.{Offset}
 use Rattle.write.specs.declared.Options.{Options}
-use Rattle.write.specs.declared.Answer.TheVariants.{Done}
 use Rattle.write_entries.specs.Entries.{table_bytes}
 use Rattle.write.specs.File.{header_of, extension_head, Extension, extensions_for, writes_other, extensions_of, contents, extensions_asked, eoie_part, trailer_of, front_of, body_of, offset_of, closed_of, file_of, writes_tree, has_eoie, body_bytes, file_bytes, most, version_of, write_all}
 use Rattle.kind.specs.Kind.{Kind}
 use Rattle.write.specs.Parts.{length-head, length-header, length-trailer}
 use Rattle.claims_write.specs.Extensions.{EOIE}
 use Rattle.claims_write.specs.Spelled.{tree_body, written, done_says, file_in, file_is, tree_small, count, before}
+use Rattle.write.specs.Made.{written_with}
 
 -- ---- extensions whose signatures and sizes have four bytes
 
@@ -257,15 +256,15 @@ module _ (kind : Kind) where
       unfolding body_bytes body_of front_of
       offset_small = omega (arith, length-append before_extensions (extensions_of here))
 
-      found_in_written : has_eoie (records_in rs) o ≡ true → offset_in kind (written kind rs ps ns nm o) ≡ Offset (file_at (offset_of kind.id rs ps))
+      found_in_written : has_eoie (records_in rs) o ≡ true → offset_in kind (written kind rs ps ns nm o) ≡ Some (file_at (offset_of kind.id rs ps))
       found_in_written e =
           let t = true_told before_extensions last (offset_of kind.id rs ps) here offset_is (omega (arith, offset_is)) (omega (arith, offset_small)) (length-trailer kind o.unhashed (before kind rs ps ns nm o))
           (sized_others (writes_tree o) (tree_body kind ns nm) o.sparse (tree_small kind rs ps ns nm o short)) (some_other (records_in rs) o (tree_body kind ns nm) e) in
           ap (λ (s : List ℕ). offset_in kind s) (with_eoie e) ∙ tells_told kind (before_extensions ++ (extensions_of here ++ (eoie_of (offset_of kind.id rs ps) (contents here) ++ last))) (offset_of kind.id rs ps) t
 
   -- where the writer answers Done and EOIE is written, the EOIE reader finds it and tells where the extensions start
-  pub eoie_is_found : (rs : List ℕ) (ps : Paths) (ns nm : List ℕ) (o : Options) (out : List ℕ) (version size : ℕ) (done : (write_all kind depth_limit rs ps ns nm o out).answer ≡ Done version size) → has_eoie (records_in rs) o ≡ true
-      → offset_in kind (file_in kind rs ps ns nm o out version size done) ≡ Offset (file_at (offset_of kind.id rs ps))
+  pub eoie_is_found : (rs : List ℕ) (ps : Paths) (ns nm : List ℕ) (o : Options) (out : List ℕ) (version size : ℕ) (done : (write_all kind depth_limit rs ps ns nm o out).answer ≡ Ok (written_with version size)) → has_eoie (records_in rs) o ≡ true
+      → offset_in kind (file_in kind rs ps ns nm o out version size done) ≡ Some (file_at (offset_of kind.id rs ps))
   eoie_is_found rs ps ns nm o out version size done e =
       let d = done_says kind rs ps ns nm o out version size done in
       ap (λ (s : List ℕ). offset_in kind s) (file_is kind rs ps ns nm o out version size done) ∙ found_in_written rs ps ns nm o d.few d.short e

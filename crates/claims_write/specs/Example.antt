@@ -1,6 +1,6 @@
 -- That the premises of demand 2 can be met: a table of two records, one of them marked REMOVE, and a tree of one node, written with TREE and `sdir`; and what the claims say of it.
 -- Assumes nothing.
-use Rattle.std.specs.Prelude.{ℕ, zero, suc, ◌≡◌, refl, true, false, List, [], ◌∷◌, ◌++◌, replicate}
+use Rattle.std.specs.Prelude.{ℕ, zero, suc, ◌≡◌, refl, true, false, List, [], ◌∷◌, ◌++◌, replicate, Ok}
 use Rattle.std.proofs.Common.{arith, lit≤, lit<}
 use Rattle.slices.specs.Bytes.{nul_in, nul_at}
 use Rattle.wire.specs.BigEndian.{be_at, bytes_of}
@@ -19,11 +19,11 @@ use Rattle.claims_extension.specs.Words.{all_bytes, bytes_if}
 use Rattle.file.specs.Read.{Outcome as ReadOutcome}
 use Rattle.claims.specs.Premises.{Slices}
 use Rattle.write.specs.declared.Options.{Options}
-use Rattle.write.specs.declared.Answer.TheVariants.{Done}
 use Rattle.write_entries.specs.Entries.{fault_of, stated, fixed_of, front_at, flag_bytes, entry_of, record_bytes, entries_bytes, kept_of, count_of, any_extended, first_fault}
 use Rattle.write.specs.File.{header_of, extension_head, contents, eoie_part, trailer_of, front_of, extensions_of, body_of, closed_of, file_of, writes_tree, has_eoie, tree_fits, body_bytes, file_bytes, Outcome, write_file, write_all}
 use Rattle.claims_write.specs.Meaning.{kept_from, WritableTable, SameEntry}
 use Rattle.claims_write.specs.Claims.{Roomy, reading, bytes, written_reads_back, writable_ends}
+use Rattle.write.specs.Made.{written_with}
 
 -- ---- the table
 
@@ -49,7 +49,7 @@ unfoldable writing : Outcome
 unfolding nul_in nul_at be_at bytes_of digits_by digits_of field_at lies_inside path_at word_at id_at is_part part_of name_inside name_at any_in twin repeats siblings_differ count_bytes front_bytes number_bytes id_bytes head_bytes better best_run next_kid kids each node_bytes parent_fits count_fits holds_none name_fits climbs node_fits child_count kids_fit all_in is_proper fault_of stated fixed_of front_at flag_bytes entry_of record_bytes entries_bytes kept_of count_of any_extended first_fault header_of extension_head contents eoie_part trailer_of front_of extensions_of body_of closed_of file_of writes_tree has_eoie tree_fits body_bytes file_bytes write_file write_all
 writing = write_all sha1_kind depth_limit records paths nodes [] options (replicate 140 9)
 
-pub is_written : (write_all sha1_kind depth_limit records paths nodes [] options (replicate 140 9)).answer ≡ Done 2 137
+pub is_written : (write_all sha1_kind depth_limit records paths nodes [] options (replicate 140 9)).answer ≡ Ok (written_with 2 137)
 unfolding writing
 is_written = refl
 

@@ -1,6 +1,6 @@
 -- EACH PREMISE OF DEMAND 2 IS NEEDED (01, "How an entry is spelled" and "Writing"): four tables that each have three of them, are written, are read again,
 -- and read back as something else; so by demand 2 they lack the fourth. What is written and read is computed. Assumes nothing.
-use Rattle.std.specs.Prelude.{ℕ, zero, suc, ◌<◌, ◌≡◌, refl, true, false, List, [], ◌∷◌, ◌++◌, length, get_or, take, replicate}
+use Rattle.std.specs.Prelude.{ℕ, zero, suc, ◌<◌, ◌≡◌, refl, true, false, List, [], ◌∷◌, ◌++◌, length, get_or, take, replicate, Ok}
 use Rattle.std.proofs.Common.{ap, arith}
 use Rattle.slices.specs.Bytes.{same_bytes, nul_in, nul_at}
 use Rattle.wire.specs.BigEndian.{be_at, bytes_of}
@@ -12,19 +12,19 @@ use Rattle.entry.specs.Paths.{Paths, lying_in}
 use Rattle.entry.specs.Record.{records_in, mode_at, flags_at, field_at, lies_inside, path_at, front_of, rest_of, record_of, put_record}
 use Rattle.measure.specs.Entry as measure
 use Rattle.decode.specs.Header.{on_version, header_at}
-use Rattle.decode.specs.Entries.{path_of, marked, run, least, read_entries}
+use Rattle.decode.specs.Entries.{path_of, marked, run, read_entries}
 use Rattle.extension.specs.Iter.{step_at, run_by, run_at, last_where}
 use Rattle.extension.specs.Decode.{sparse_in, judged, all_at}
 use Rattle.grammar.specs.Entry.{kept_mode}
 use Rattle.file.specs.Trailer.{good_trailer}
 use Rattle.file.specs.Read.{Outcome as ReadOutcome, extensions_into, entries_into, read_file}
-use Rattle.file.specs.declared.Answer.TheVariants.{Read}
 use Rattle.write.specs.declared.Options.{Options}
-use Rattle.write.specs.declared.Answer.TheVariants.{Done}
 use Rattle.write_entries.specs.Entries.{is_gone, fault_of, stated, fixed_of, front_at, flag_bytes, entry_of, record_bytes, entries_bytes, kept_of, count_of, any_extended, first_fault}
 use Rattle.write.specs.File.{header_of, extension_head, contents, eoie_part, trailer_of, body_of, extensions_of, closed_of, file_of, writes_tree, has_eoie, tree_fits, body_bytes, file_bytes, Outcome, write_file, write_all}
 use Rattle.write.specs.File as write
 use Rattle.claims_write.specs.Meaning.{PathsEnd, MarksFit, WritableTable, NoneRemoved, SameEntry}
+use Rattle.file.specs.Made.{read_with_all}
+use Rattle.write.specs.Made.{written_with}
 
 -- ---- what is written and read
 
@@ -39,7 +39,7 @@ writing rs ps size = write_all sha1_kind depth_limit rs ps [] [] plain (replicat
 
 -- and what the reader makes of them, with stores that are large enough
 unfoldable pub reading : List ℕ → Paths → ℕ → ReadOutcome
-unfolding writing read_file header_at on_version good_trailer same_bytes entries_into read_entries run least path_of marked put_record record_of front_of rest_of keep_mode dir_at measure.measure_at measure.head_at measure.head_with measure.extended_at extended_to_memory measure.padded_at measure.padded_to measure.whole_of nul_at nul_in extensions_into all_at run_at run_by step_at judged sparse_in last_where
+unfolding writing read_file header_at on_version good_trailer same_bytes entries_into read_entries run path_of marked put_record record_of front_of rest_of keep_mode dir_at measure.measure_at measure.head_at measure.head_with measure.extended_at extended_to_memory measure.padded_at measure.padded_to measure.whole_of nul_at nul_in extensions_into all_at run_at run_by step_at judged sparse_in last_where
 reading rs ps size =
     read_file sha1_kind depth_limit (take size (write_all sha1_kind depth_limit rs ps [] [] plain (replicate size 9)).out)
     (replicate (length rs) 9) (replicate (length ps.store) 9) []
@@ -55,8 +55,8 @@ AllMarksFit rs = (i : ℕ) → i < records_in rs → is_gone rs i ≡ false → 
 
 -- a table that is written, in so many bytes, and read again, as so many records and path bytes, but whose record 0 is not what is read as record 0
 pub record ReadsBackOtherwise (rs : List ℕ) (ps : Paths) (size records used : ℕ) : Type 0 where
-  pub is_written : (writing rs ps size).answer ≡ Done 2 size
-  pub is_read : (reading rs ps size).answer ≡ Read 2 false false records used 0
+  pub is_written : (writing rs ps size).answer ≡ Ok (written_with 2 size)
+  pub is_read : (reading rs ps size).answer ≡ Ok (read_with_all 2 false false records used 0)
   pub is_other : SameEntry id_size rs ps 0 (reading rs ps size).records (lying_in (reading rs ps size).paths) 0 → ⊥
 
 -- ---- the tables

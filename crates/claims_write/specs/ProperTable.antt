@@ -1,7 +1,7 @@
 -- A PROPER NODE TABLE IN 01'S WORDS (01, Writing): over the table's accessors, the grammar's names without NUL and distinct names, and the levels of nodes;
 -- and that the writer's test passes exactly these. Over the depth. Assumes nothing.
 use Prim.Native.Nat.{ℕ, zero, suc, ◌+◌, ◌-◌, ◌^◌, ◌≤◌, ◌<◌}
-use Rattle.std.specs.Prelude.{◌≡◌, Bool, List, [], ◌∷◌, map, ◌⊎◌, ◌↔◌, leb, eqb}
+use Rattle.std.specs.Prelude.{◌≡◌, Bool, List, [], ◌∷◌, map, ◌⊎◌, ◌↔◌, leb, eqb, is_none}
 use Rattle.std.proofs.Math.Path.{refl, ap, subst}
 use Rattle.std.proofs.Common.{sym, ◌∙◌, ne_eqb, le-leb, leb-true}
 use Rattle.std.proofs.Math.Bool.{true, false}
@@ -17,7 +17,7 @@ use Rattle.siblings.specs.Siblings.{is_child}
 use Rattle.siblings.specs.InOrder.{Distinct as DistinctAt, differ_distinct, distinct_differ}
 use Rattle.walk_order.specs.Depth.{level_climbs}
 use Rattle.tree_write.specs.Order.{false_true}
-use Rattle.proper.specs.Proper.{is_never, holds_none, child_count, is_proper}
+use Rattle.proper.specs.Proper.{holds_none, child_count, is_proper}
 use Rattle.proper.specs.Table.{Proper, proper_exactly}
 use Rattle.tree_write.specs.Kids.{Mem, here, there, not_mem, Rising, done, more}
 use Rattle.grammar.specs.Entry.{NoNul}
@@ -64,7 +64,7 @@ pub record ProperTable (limit : ℕ) (ns nm : List ℕ) : Type 0 where
 
 -- ---- names
 
-never_nul : {name : List ℕ} → NoNul name → (f i : ℕ) → is_never (nul_in f name i) ≡ true
+never_nul : {name : List ℕ} → NoNul name → (f i : ℕ) → is_none (nul_in f name i) ≡ true
 unfolding nul_in
 never_nul n zero i = refl
 never_nul empty (suc f) i = refl

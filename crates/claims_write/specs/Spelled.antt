@@ -1,7 +1,7 @@
 -- WHAT THE WRITER WRITES IS SPELLED BY THE GRAMMAR: the file that it answers `Done` for, and the index that it means. Over all tables and all that may be asked for.
 -- Assumes nothing.
 use Prim.Native.Nat.{ℕ, zero, suc, ◌+◌, ◌^◌, ◌≤◌, ◌<◌}
-use Rattle.std.specs.Prelude.{◌≡◌, take, drop}
+use Rattle.std.specs.Prelude.{◌≡◌, take, drop, Err, Ok}
 use Rattle.std.proofs.Math.Path.{refl, ap}
 use Rattle.std.proofs.Common.{sym, ◌∙◌, subst, lit≤, lit<, take_at}
 use Rattle.std.proofs.Math.Bool.{Bool, true, false}
@@ -24,7 +24,6 @@ use Rattle.claims_entries.specs.Rendering.{sparse_by, sparse_tells}
 use Rattle.claims_extension.specs.Said.{either_marks}
 use Rattle.tree_write.specs.Tree.{tree_bytes}
 use Rattle.write.specs.declared.Options.{Options}
-use Rattle.write.specs.declared.Answer.TheVariants.{Done, PathOutside, NotProper, TooLarge, ShortOutput}
 use Rattle.write_entries.specs.Entries.{is_gone, First, found, nowhere, first_fault, on_first, kept_of, count_of, any_extended, table_bytes}
 use Rattle.write.specs.File.{header_of, version_of, contents, eoie_part, trailer_of, front_of, extensions_of, extensions_asked, body_of, offset_of, closed_of, file_of, writes_tree, has_eoie, tree_fits, body_bytes, file_bytes, Outcome, outcome, most, write_file, write_all}
 use Rattle.kind.specs.Kind.{Kind}
@@ -33,6 +32,10 @@ use Rattle.claims_write.specs.Meaning.{meanings_of, PathsEnd}
 use Rattle.claims_write.specs.Entries.{big, entries_spelled}
 use Rattle.write.specs.Extensions.{length-extensions, signed_for, size_for}
 use Rattle.claims_write.specs.Extensions.{extensions_meant, extensions_spelled, marks_sdir, last_tree, no_tree as no-TREE}
+use Rattle.write.specs.Made.{written_with}
+use Rattle.write.specs.declared.Error.TheVariants.{NotProper, PathOutside, ShortOutput, TooLarge}
+use Rattle.laws.specs.Same.{ok_same}
+use Rattle.write.specs.declared.Written.{Written}
 
 module _ (kind : Kind) where
   -- ---- THE MEANING
@@ -79,7 +82,7 @@ module _ (kind : Kind) where
     abbrev writing : Outcome
     writing = write_all kind depth_limit rs ps ns nm o out
 
-    pub done_says : (version size : ℕ) → writing.answer ≡ Done version size → Done? rs ps ns nm o out version size writing.out
+    pub done_says : (version size : ℕ) → writing.answer ≡ Ok (written_with version size) → Done? rs ps ns nm o out version size writing.out
     unfolding write_all write_file
     done_says version size e = one (first_fault rs ps (records_in rs) 0) refl (tree_fits depth_limit ns nm (writes_tree o)) refl (less? most (records_in rs)) (less? most (length body)) (less? (length out) (length whole)) e
       where
@@ -90,19 +93,20 @@ module _ (kind : Kind) where
         whole = file_bytes kind depth_limit rs ps ns nm o
 
         last : Bool → Bool → Bool → Outcome
-        last a b c = pick a (outcome TooLarge out) (pick b (outcome TooLarge out) (pick c (outcome (ShortOutput (length whole)) out) (outcome (Done (version_of rs) (length whole)) (whole ++ drop (length whole) out))))
+        last a b c = pick a (outcome (Err TooLarge) out) (pick b (outcome (Err TooLarge) out) (pick c (outcome (Err (ShortOutput (length whole))) out) (outcome (Ok (written_with (version_of rs) (length whole))) (whole ++ drop (length whole) out))))
 
         one : (f : First) → first_fault rs ps (records_in rs) 0 ≡ f → (t : Bool) → tree_fits depth_limit ns nm (writes_tree o) ≡ t → {a b c : Bool} → Less most (records_in rs) a → Less most (length body) b → Less (length out) (length whole) c
-            → (on_first f (λ i. outcome (PathOutside i) out) (pick t (last a b c) (outcome NotProper out))).answer ≡ Done version size
-            → Done? rs ps ns nm o out version size (on_first f (λ i. outcome (PathOutside i) out) (pick t (last a b c) (outcome NotProper out))).out
+            → (on_first f (λ i. outcome (Err (PathOutside i)) out) (pick t (last a b c) (outcome (Err NotProper) out))).answer ≡ Ok (written_with version size)
+            → Done? rs ps ns nm o out version size (on_first f (λ i. outcome (Err (PathOutside i)) out) (pick t (last a b c) (outcome (Err NotProper) out))).out
         one (found i) ef t et x y z q = let w : ◌≡◌ {A = ℕ} 0 1 = cc in absurd (omega arith)
         one nowhere ef false et x y z q = let w : ◌≡◌ {A = ℕ} 0 1 = cc in absurd (omega arith)
         one nowhere ef true et (less x) y z q = let w : ◌≡◌ {A = ℕ} 0 1 = cc in absurd (omega arith)
         one nowhere ef true et (not_less x) (less y) z q = let w : ◌≡◌ {A = ℕ} 0 1 = cc in absurd (omega arith)
         one nowhere ef true et (not_less x) (not_less y) (less z) q = let w : ◌≡◌ {A = ℕ} 0 1 = cc in absurd (omega arith)
         one nowhere ef true et (not_less x) (not_less y) (not_less z) q =
-            let v : version ≡ version_of rs = cc in
-            let s : size ≡ length whole = cc in
+            let same : written_with version size ≡ written_with (version_of rs) (length whole) = sym (ok_same q) in
+            let v : version ≡ version_of rs = ap (λ (w : Written). w.version) same in
+            let s : size ≡ length whole = ap (λ (w : Written). w.size) same in
             record { inside = ef; proper = et; few = x; short = y; version_is = v; size_is = s; room = omega arith; after_is = refl }
 
   -- ---- the parts
@@ -211,7 +215,7 @@ module _ (kind : Kind) where
 
   -- ---- THE THEOREM: where the writer answers Done, the first `size` bytes of what the output holds are spelled, and mean the table
 
-  module _ (rs : List ℕ) (ps : Paths) (ns nm : List ℕ) (o : Options) (out : List ℕ) (version size : ℕ) (done : (write_all kind depth_limit rs ps ns nm o out).answer ≡ Done version size) where
+  module _ (rs : List ℕ) (ps : Paths) (ns nm : List ℕ) (o : Options) (out : List ℕ) (version size : ℕ) (done : (write_all kind depth_limit rs ps ns nm o out).answer ≡ Ok (written_with version size)) where
     -- the file: the first `size` bytes of the output
     abbrev pub file_in : List ℕ
     file_in = take size (write_all kind depth_limit rs ps ns nm o out).out

@@ -1,6 +1,6 @@
 -- A tree that the reader stored, siblings sorted by name, is a table in file order: the premise of `same_nodes_are_stored` holds of it. So what was read from a sorted tree and is
 -- written again is read again as the same nodes. Over the length of an id and the depth. Assumes that 64 bits address each byte of file and store, a premise.
-use Rattle.std.specs.Prelude.{ℕ, zero, suc, ◌+◌, ◌*◌, ◌≤◌, ◌<◌, ◌≡◌, refl, true, ◌⊎◌, length, take, drop}
+use Rattle.std.specs.Prelude.{ℕ, zero, suc, ◌+◌, ◌*◌, ◌≤◌, ◌<◌, ◌≡◌, refl, true, ◌⊎◌, length, take, drop, Ok, Some}
 use Rattle.std.proofs.Common.{sym, ap, ◌∙◌, inl, inr, ⊎_elim, take_at}
 use Rattle.std.proofs.Math.Path.{subst}
 use mathlib.Core.List.{List, [], ◌∷◌, ◌++◌, append-nil}
@@ -10,7 +10,6 @@ use Rattle.laws.specs.Order.{Before, transitive, before_below}
 use Rattle.format.specs.Format.{id_room}
 use Rattle.node.specs.Head.{minus_one}
 use Rattle.node.specs.Store.{nodes_in, parent_at, name_at}
-use Rattle.tree.specs.declared.TreeAnswer.TheVariants.{Tree as IsTree}
 use Rattle.tree.specs.Tree.{read_tree}
 use Rattle.tree_write.specs.Order.{before, by_index, before_not, before_trans}
 use Rattle.tree_write.specs.Tree.{each}
@@ -211,7 +210,7 @@ sorted_tree_in_file_order n fits limit s end inside short t x lies small deep so
 
 -- so of what the reader leaves in the node store, where siblings stand sorted in the file
 module _ (n : ℕ) (fits : n ≤ id_room) (limit : ℕ) (s : List ℕ) (start end : ℕ) (ns : List ℕ) (lies_in : SpaceIn s start end) (short : Addressable s) (small : Addressable ns) where
-  pub stored_in_file_order : (k : ℕ) (ms : List ℕ) → read_tree n limit s start end ns ≡ (IsTree k, ms) → (t : Tree) × Node n start (part s start end) t × (Sorted t → InFileOrder limit (take (k * 72) ms) s)
+  pub stored_in_file_order : (k : ℕ) (ms : List ℕ) → read_tree n limit s start end ns ≡ (Ok (Some k), ms) → (t : Tree) × Node n start (part s start end) t × (Sorted t → InFileOrder limit (take (k * 72) ms) s)
   stored_in_file_order k ms q =
       let (t, x, deep, room, e, f) = read_is_spelled n fits limit s start end ns lies_in short small k ms q in
       let size : length (tree_bytes t) ≡ nodes t * 72 = tree_length n fits t x minus_one 0 in

@@ -1,7 +1,7 @@
 -- The tree that the writer writes of a proper node table is spelled by the grammar: each node with its name, its count and its id, and below it its children, all of
 -- them, in byte order of name. Over the length of an id and the depth. Assumes that the node table has fewer than 2^64 bytes, as every slice has.
 use Prim.Native.Nat.{ℕ, zero, suc, ◌+◌, ◌-◌, ◌*◌, ◌/◌, ◌%◌, ◌^◌, ◌≤◌, ◌<◌}
-use Rattle.std.specs.Prelude.{◌≡◌, Bool, true, false, List, [], ◌∷◌, ◌++◌, map, ◌⊎◌, ltb, eqb, take, drop}
+use Rattle.std.specs.Prelude.{◌≡◌, Bool, true, false, List, [], ◌∷◌, ◌++◌, map, ◌⊎◌, ltb, eqb, take, drop, Some, is_none}
 use Rattle.std.proofs.Math.Path.{refl, sym, subst}
 use Rattle.std.proofs.Common.{ap, ◌∙◌, append_assoc, ⊎_elim, arith, lit≤, lit<, lt-ltb, eq-eqb, ne_eqb}
 use Rattle.std.proofs.Math.ListN.{length}
@@ -10,7 +10,6 @@ use Rattle.laws.specs.Lists.{length_part}
 use Rattle.laws.specs.Order.{Before}
 use Rattle.laws.specs.Tests.{tri, Less, less, not_less, less?, Same, same, differs, same?}
 use Rattle.slices.specs.Bytes.{nul_in, nul_at}
-use Rattle.slices.specs.declared.Ends.TheVariants.{With}
 use Rattle.wire.specs.Written.{digits_by, digits_of}
 use Rattle.node.specs.Head.{minus_one, count_half}
 use Rattle.node.specs.Store.{nodes_in, count_at, subtrees_at, parent_at, id_at, name_at}
@@ -19,7 +18,7 @@ use Rattle.siblings.specs.InOrder.{Distinct as DistinctAt, differ_distinct}
 pub use Rattle.walk_order.specs.Depth.{Level, root, below, level_within}
 use Rattle.tree_write.specs.Order.{before, false_true, before_not, before_names}
 use Rattle.tree_write.specs.Tree.{after, count_bytes, front_bytes, number_bytes, id_bytes, head_bytes, kids, each, node_bytes}
-use Rattle.proper.specs.Proper.{is_never, holds_none, child_count}
+use Rattle.proper.specs.Proper.{holds_none, child_count}
 use Rattle.proper.specs.Table.{Proper}
 use Rattle.tree_write.specs.Kids.{Mem, here, there, Rising, done, more, top, tally_all, cand, goes}
 use Rattle.grammar.specs.Number.{Digit, Digits, last_digit, digit, Count, covers, invalid, Signed, minus}
@@ -55,13 +54,13 @@ digits_spelled x = digits_by_lem (suc x) x (omega arith)
 
 -- ---- the head
 
-nul_never : (f : ℕ) (l : List ℕ) (i : ℕ) → length l ≤ f → is_never (nul_in f l i) ≡ true → NoNul l
+nul_never : (f : ℕ) (l : List ℕ) (i : ℕ) → length l ≤ f → is_none (nul_in f l i) ≡ true → NoNul l
 unfolding nul_in
 nul_never f [] i h e = empty
 nul_never zero (c ∷ l) i h e = absurd (omega arith)
 nul_never (suc f) (c ∷ l) i h e = by (same? c 0) (λ q. nul_never f l (i + 1) (omega arith) q) e
   where
-    by : {t : Bool} → Same c 0 t → (is_never (nul_in f l (i + 1)) ≡ true → NoNul l) → is_never (pick t (With i) (nul_in f l (i + 1))) ≡ true → NoNul (c ∷ l)
+    by : {t : Bool} → Same c 0 t → (is_none (nul_in f l (i + 1)) ≡ true → NoNul l) → is_none (pick t (Some i) (nul_in f l (i + 1))) ≡ true → NoNul (c ∷ l)
     by (same z) ih e = absurd (false_true e)
     by (differs d) ih e = let p : 0 < c = omega arith in byte p (ih e)
 

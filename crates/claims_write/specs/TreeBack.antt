@@ -2,7 +2,7 @@
 -- each node once, with its parent, count, subtree count, id and name, siblings in byte order of name. Assumes that the file is bytes and that no slice has
 -- 2^64 bytes or more, premises with names.
 use Prim.Native.Nat.{ℕ, zero, suc, ◌+◌, ◌*◌, ◌^◌, ◌≤◌, ◌<◌}
-use Rattle.std.specs.Prelude.{◌≡◌, refl, Bool, true, false, ◌⊎◌, eqb, get_or, take, drop}
+use Rattle.std.specs.Prelude.{◌≡◌, refl, Bool, true, false, ◌⊎◌, eqb, get_or, take, drop, Ok}
 use Rattle.std.proofs.Math.Path.{sym, ap, subst}
 use Rattle.std.proofs.Common.{◌∙◌, inl, inr, ⊎_elim, arith, lit≤, length-append}
 use mathlib.Core.List.{List, [], ◌∷◌, ◌++◌, append-nil}
@@ -21,7 +21,6 @@ use Rattle.node.specs.Head.{minus_one}
 use Rattle.node.specs.Store.{nodes_in, word_at, parent_at, id_at, part_of, name_at}
 use Rattle.tree_write.specs.Kids.{Mem, here, there}
 use Rattle.write.specs.declared.Options.{Options}
-use Rattle.write.specs.declared.Answer.TheVariants.{Done}
 use Rattle.write.specs.File.{header_of, tree_head, extension_head, sparse_part, eoie_part, trailer_of, writes_tree, tree_signature, offset_of, version_of, write_all}
 use Rattle.write.specs.Extensions.{bytes_for}
 use Rattle.write.specs.Parts.{length-head, length-header}
@@ -40,6 +39,7 @@ use Rattle.claims_write.specs.Claims.{bytes, reading, Roomy, tree_reads_back}
 use Rattle.claims_write.specs.Count.{walk, met_once, walk_inside, walk_length}
 use Rattle.claims_write.specs.SameTree.{SameNode, SameTree}
 use Rattle.claims_write.specs.Forest.{forest_nodes, forest_parents, forest_by_name, forest_in_order, Planted, planted}
+use Rattle.write.specs.Made.{written_with}
 
 -- ---- a list that has each number once
 
@@ -239,7 +239,7 @@ module _ (kind : Kind) where
   -- ---- THE THEOREMS
 
   module _ (rs : List ℕ) (ps : Paths) (ns nm : List ℕ) (o : Options) (out : List ℕ) (version size : ℕ)
-      (done : (write_all kind depth_limit rs ps ns nm o out).answer ≡ Done version size) (few : length ns < 2 ^ 64) (ends : PathsEnd rs ps)
+      (done : (write_all kind depth_limit rs ps ns nm o out).answer ≡ Ok (written_with version size)) (few : length ns < 2 ^ 64) (ends : PathsEnd rs ps)
       (records' paths' nodes' : List ℕ)
       (slices : Slices (bytes kind rs ps ns nm o out version size done few ends records' paths' nodes') paths' nodes')
       (roomy : Roomy kind rs ps ns o records' paths' nodes') where

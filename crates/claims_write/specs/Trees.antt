@@ -1,6 +1,6 @@
 -- THE WRITTEN TREE: where TREE is written, its body is spelled and is the tree of the node table, every node once, siblings sorted by name; and the file means it. Assumes that
 -- the node table has fewer than 2^64 bytes, as every slice has.
-use Rattle.std.specs.Prelude.{ℕ, ◌^◌, ◌≤◌, ◌<◌, ◌≡◌, Bool, true, List, length}
+use Rattle.std.specs.Prelude.{ℕ, ◌^◌, ◌≤◌, ◌<◌, ◌≡◌, Bool, true, List, length, Ok}
 use Rattle.std.proofs.Common.{sym, ap, ◌∙◌, arith}
 use Rattle.std.proofs.Math.Option.{none, some}
 use Rattle.laws.specs.Pick.{pick}
@@ -16,19 +16,19 @@ use Rattle.node.specs.Store.{nodes_in}
 use Rattle.proper.specs.Proper.{is_proper}
 use Rattle.proper.specs.Table.{Proper, proper_exactly}
 use Rattle.write.specs.declared.Options.{Options}
-use Rattle.write.specs.declared.Answer.TheVariants.{Done}
 use Rattle.write.specs.File.{writes_tree, tree_fits, write_all}
 use Rattle.claims_write.specs.Spelled.{tree_body, tree_place, tree_meant, done_says}
 use Rattle.claims_write.specs.Tree.{tree_at, tree_spelled, tree_shallow, Sorted, tree_sorted}
 use Rattle.claims_write.specs.Count.{tree_nodes}
 use Rattle.claims_write.specs.Listed.{InFileOrder, Rows, same_list_lem}
+use Rattle.write.specs.Made.{written_with}
 
 module _ (kind : Kind) where
   -- the tree of a node table, in a file with this record table: its names stand behind the entries
   abbrev pub tree_written : List ℕ → Paths → List ℕ → List ℕ → Tree
   tree_written rs ps ns nm = tree_at kind.id ns nm depth_limit (tree_place kind rs ps) 0
 
-  module _ (rs : List ℕ) (ps : Paths) (ns nm : List ℕ) (o : Options) (out : List ℕ) (version size : ℕ) (done : (write_all kind depth_limit rs ps ns nm o out).answer ≡ Done version size) (few : length ns < 2 ^ 64) (asked : writes_tree o ≡ true) where
+  module _ (rs : List ℕ) (ps : Paths) (ns nm : List ℕ) (o : Options) (out : List ℕ) (version size : ℕ) (done : (write_all kind depth_limit rs ps ns nm o out).answer ≡ Ok (written_with version size)) (few : length ns < 2 ^ 64) (asked : writes_tree o ≡ true) where
     -- a table that is written is proper
     pub proper : Proper depth_limit ns nm
     unfolding tree_fits

@@ -1,6 +1,6 @@
 -- A run of entries into two stores, one entry after the other, over the id's length (01, How an entry is spelled; When the desk says no, 5 and 6). Each entry is
 -- measured first; then record room and path room are tested; only then is it stored. Assumes nothing.
-use Rattle.std.specs.Prelude.{ℕ, zero, suc, ◌+◌, ◌-◌, ◌≤◌, Bool, true, false, List, [], ◌∷◌, ◌++◌, length, take, drop, ltb, leb}
+use Rattle.std.specs.Prelude.{ℕ, zero, suc, ◌+◌, ◌-◌, ◌≤◌, min, Bool, true, false, List, [], ◌∷◌, ◌++◌, length, take, drop, ltb, leb, Err, Ok, Result, is_none, unwrap_or}
 use Rattle.std.proofs.Math.Seq.{paste}
 use Rattle.laws.specs.Pick.{pick}
 use Rattle.wire.specs.Places.{path_at}
@@ -11,25 +11,28 @@ use Rattle.refusal.specs.Bit.{bit}
 use Rattle.entry.specs.Mode.{dir_at}
 use Rattle.entry.specs.Record.{records_in, put_record}
 use Rattle.measure.specs.Entry.{measure_at}
-use Rattle.measure.specs.declared.Measured.{Measured}
-use Rattle.measure.specs.declared.Measured.TheVariants.{Entry, Short, Fault}
 use Rattle.decode.specs.declared.entries.Before.{Before}
 use Rattle.decode.specs.declared.entries.Stored.{Stored}
 use Rattle.decode.specs.declared.entries.Run.{Run}
-use Rattle.decode.specs.declared.entries.Answer.{Answer}
-use Rattle.decode.specs.declared.entries.Answer.TheVariants.{Done, NotSpelled, NoRoom}
+use Rattle.decode.specs.Made.{done_at}
+use Rattle.decode.specs.declared.entries.Done.{Done}
+use Rattle.decode.specs.declared.entries.Error.{Error as EntriesError}
+use Rattle.decode.specs.declared.entries.Error.TheVariants.{NoRoom, NotSpelled}
+use Rattle.measure.specs.declared.Measured.{Measured}
+use Rattle.measure.specs.declared.Unspelled.{Unspelled}
+use Rattle.measure.specs.declared.Unspelled.TheVariants.{Fault, Short}
 
 -- 01's number of an answer, 0 where nothing is refused, and what goes with it: the place behind the entries, the path bytes in use and whether the index is sparse, or
 -- the entry that is refused
-abbrev pub number_of : Answer → ℕ
-number_of (Done next used sparse) = 0
-number_of (NotSpelled k) = not_spelled
-number_of (NoRoom k) = no_entry_room
+abbrev pub number_of : Result Done EntriesError → ℕ
+number_of (Ok d) = 0
+number_of (Err (NotSpelled k)) = not_spelled
+number_of (Err (NoRoom k)) = no_entry_room
 
-abbrev pub carried_of : Answer → List ℕ
-carried_of (Done next used sparse) = next.0 ∷ used.0 ∷ bit sparse ∷ []
-carried_of (NotSpelled k) = k ∷ []
-carried_of (NoRoom k) = k ∷ []
+abbrev pub carried_of : Result Done EntriesError → List ℕ
+carried_of (Ok d) = d.next.0 ∷ d.used.0 ∷ bit d.sparse ∷ []
+carried_of (Err (NotSpelled k)) = k ∷ []
+carried_of (Err (NoRoom k)) = k ∷ []
 
 -- a path: what is kept of the one before, which ends at `used`, and a part of the file
 unfoldable pub path_of : List ℕ → List ℕ → ℕ → ℕ → ℕ → ℕ → ℕ → List ℕ
@@ -48,27 +51,27 @@ pub record Room (s ps : List ℕ) (keep suffix len prev used : ℕ) : Type 0 whe
 
 -- what reading comes to: the answer, and what the two stores hold
 pub record Outcome : Type 0 where
-  pub answer : Answer
+  pub answer : Result Done EntriesError
   pub records : List ℕ
   pub paths : List ℕ
 
-abbrev pub outcome : Answer → List ℕ → List ℕ → Outcome
+abbrev pub outcome : Result Done EntriesError → List ℕ → List ℕ → Outcome
 outcome a rs ps = record { answer = a; records = rs; paths = ps }
 
-abbrev pub on_measured : Measured → Outcome → (ℕ → ℕ → FileAt → ℕ → FileAt → Outcome) → Outcome
-on_measured (Entry flags keep suffix len next) bad good = good flags keep suffix len next
-on_measured Short bad good = bad
-on_measured Fault bad good = bad
+abbrev pub on_measured : Result Measured Unspelled → Outcome → (ℕ → ℕ → FileAt → ℕ → FileAt → Outcome) → Outcome
+on_measured (Ok m) bad good = good m.flags m.keep m.suffix m.len m.next
+on_measured (Err Short) bad good = bad
+on_measured (Err Fault) bad good = bad
 
 -- n entries from `at` on, the first of which is number i. So far `used` bytes of the paths are in use; `first` says that no path comes before, and else the last
 -- `prev` of these bytes are the path before
 unfoldable pub run : ℕ → List ℕ → FileAt → ℕ → ℕ → ℕ → FileAt → PathAt → Bool → ℕ → Bool → List ℕ → List ℕ → Outcome
-run id s end version zero i at used first prev sparse rs ps = outcome (Done at used sparse) rs ps
+run id s end version zero i at used first prev sparse rs ps = outcome (Ok (done_at at used sparse)) rs ps
 run id s end version (suc n) i at used first prev sparse rs ps =
-    on_measured (measure_at id s at.0 end.0 version first prev) (outcome (NotSpelled i) rs ps)
+    on_measured (measure_at id s at.0 end.0 version first prev) (outcome (Err (NotSpelled i)) rs ps)
     (λ flags keep suffix len next.
-    pick (leb (records_in rs) i) (outcome (NoRoom i) rs ps)
-    (pick (ltb (length ps - used.0) (keep + len)) (outcome (NoRoom i) rs ps)
+    pick (leb (records_in rs) i) (outcome (Err (NoRoom i)) rs ps)
+    (pick (ltb (length ps - used.0) (keep + len)) (outcome (Err (NoRoom i)) rs ps)
     (run id s end version n (i + 1) next (path_at (used.0 + (keep + len))) false (keep + len) (marked s at.0 sparse)
     (put_record id s at.0 flags used.0 (used.0 + (keep + len)) rs i)
     (paste ps used.0 (path_of s ps keep suffix.0 len prev used.0) (keep + len)))))
@@ -86,14 +89,11 @@ abbrev pub with_path : List ℕ → Stored → List ℕ → List ℕ
 with_path s e ps = paste ps e.used (path_of s ps e.keep e.suffix e.len e.prev e.used) (e.keep + e.len)
 
 abbrev pub run_of : ℕ → List ℕ → Run → Before → List ℕ → List ℕ → Outcome
-run_of id s r b rs ps = run id s r.end r.version r.count r.index r.from b.used b.first b.length false rs ps
+run_of id s r b rs ps = run id s r.end r.version r.count r.index r.from b.used (is_none b.path) (unwrap_or b.path 0) false rs ps
 
 -- ---- from what a caller says
-
-unfoldable pub least : ℕ → ℕ → ℕ
-least a b = pick (ltb b a) b a
 
 -- a run whose caller says anything: a place past the path store counts as its end, and a path before that is longer than what is in use counts as all of that
 unfoldable pub read_entries : ℕ → List ℕ → FileAt → ℕ → ℕ → ℕ → FileAt → Before → List ℕ → List ℕ → Outcome
 read_entries id s end version n i at before rs ps =
-    run id s end version n i at (path_at (least before.used.0 (length ps))) before.first (least before.length (least before.used.0 (length ps))) false rs ps
+    run id s end version n i at (path_at (min before.used.0 (length ps))) (is_none before.path) (min (unwrap_or before.path 0) (min before.used.0 (length ps))) false rs ps

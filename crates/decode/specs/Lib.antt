@@ -3,3 +3,4 @@ pub mod Header
 pub mod Bounds
 pub mod Entries
 pub mod Stores
+pub mod Made

@@ -1,9 +1,9 @@
 -- What a run leaves in its stores, over the id's length: a run as turns, the lengths, what stands before it, and that the path of each record it read lies in the
 -- path store. Later crates cite these and not the run's text. Assumes nothing.
 use Prim.Native.Nat.{ℕ, zero, suc, ◌+◌, ◌-◌, ◌*◌, ◌^◌, ◌≤◌, ◌<◌}
-use Rattle.std.specs.Prelude.{◌≡◌, Bool, true, ◌⊎◌, drop, ltb, leb}
+use Rattle.std.specs.Prelude.{◌≡◌, Bool, true, ◌⊎◌, min, drop, ltb, leb, Err, Ok, Result, is_none, unwrap_or}
 use Rattle.std.proofs.Math.Path.{refl}
-use Rattle.std.proofs.Common.{sym, ap, ◌∙◌, inl, inr, ⊎_elim, take-take, length-take-le, le-ltb}
+use Rattle.std.proofs.Common.{ap, ◌∙◌, inl, inr, ⊎_elim, take-take, length-take-le}
 use Rattle.std.proofs.Math.Bool.{false}
 use mathlib.Core.List.{List, ◌++◌, append_assoc}
 use native.Mathlib.Omega.{arith}
@@ -22,30 +22,34 @@ use Rattle.entry.specs.Laws.{put_is_paste}
 use Rattle.entry.specs.Found.{kept_length, kept_inside, put_inside}
 use Rattle.measure.specs.Entry.{measure_at}
 use Rattle.measure.specs.Inside.{Inside, measured_inside}
-use Rattle.measure.specs.declared.Measured.{Measured}
-use Rattle.measure.specs.declared.Measured.TheVariants.{Entry, Short, Fault}
 use Rattle.decode.specs.declared.entries.Before.{Before as Start}
-use Rattle.decode.specs.declared.entries.Answer.{Answer}
-use Rattle.decode.specs.declared.entries.Answer.TheVariants.{Done, NotSpelled, NoRoom}
-use Rattle.decode.specs.Entries.{path_of, marked, Outcome, outcome, on_measured, run, least, read_entries}
+use Rattle.decode.specs.Entries.{path_of, marked, Outcome, outcome, on_measured, run, read_entries}
+use Rattle.decode.specs.Made.{done_at, done_same}
+use Rattle.decode.specs.declared.entries.Done.{Done}
+use Rattle.decode.specs.declared.entries.Error.{Error as EntriesError}
+use Rattle.decode.specs.declared.entries.Error.TheVariants.{NoRoom, NotSpelled}
+use Rattle.measure.specs.Made.{measured_as}
+use Rattle.measure.specs.declared.Measured.{Measured}
+use Rattle.measure.specs.declared.Unspelled.{Unspelled}
+use Rattle.measure.specs.declared.Unspelled.TheVariants.{Fault, Short}
 
 -- a run as turns: it is done, or stops at an entry that is not spelled or has no room, or stores an entry and goes on
 pub data Ran (id : ℕ) (s : List ℕ) (end : FileAt) (version : ℕ) : ℕ → ℕ → FileAt → PathAt → Bool → ℕ → Bool → List ℕ → List ℕ → Outcome → Type 0 where
-  done : {i : ℕ} {at : FileAt} {used : PathAt} {first : Bool} {prev : ℕ} {sparse : Bool} {rs ps : List ℕ} → Ran id s end version zero i at used first prev sparse rs ps (outcome (Done at used sparse) rs ps)
-  unspelled : {n i : ℕ} {at : FileAt} {used : PathAt} {first : Bool} {prev : ℕ} {sparse : Bool} {rs ps : List ℕ} → Ran id s end version (suc n) i at used first prev sparse rs ps (outcome (NotSpelled i) rs ps)
-  full : {n i : ℕ} {at : FileAt} {used : PathAt} {first : Bool} {prev : ℕ} {sparse : Bool} {rs ps : List ℕ} → Ran id s end version (suc n) i at used first prev sparse rs ps (outcome (NoRoom i) rs ps)
+  done : {i : ℕ} {at : FileAt} {used : PathAt} {first : Bool} {prev : ℕ} {sparse : Bool} {rs ps : List ℕ} → Ran id s end version zero i at used first prev sparse rs ps (outcome (Ok (done_at at used sparse)) rs ps)
+  unspelled : {n i : ℕ} {at : FileAt} {used : PathAt} {first : Bool} {prev : ℕ} {sparse : Bool} {rs ps : List ℕ} → Ran id s end version (suc n) i at used first prev sparse rs ps (outcome (Err (NotSpelled i)) rs ps)
+  full : {n i : ℕ} {at : FileAt} {used : PathAt} {first : Bool} {prev : ℕ} {sparse : Bool} {rs ps : List ℕ} → Ran id s end version (suc n) i at used first prev sparse rs ps (outcome (Err (NoRoom i)) rs ps)
   stored : {n i : ℕ} {at : FileAt} {used : PathAt} {first : Bool} {prev : ℕ} {sparse : Bool} {rs ps : List ℕ} {o : Outcome} (flags keep : ℕ) (suffix : FileAt) (len : ℕ) (next : FileAt)
-      → measure_at id s at.0 end.0 version first prev ≡ Entry flags keep suffix len next → i < records_in rs → keep + len ≤ length ps - used.0
+      → measure_at id s at.0 end.0 version first prev ≡ Ok (measured_as flags keep suffix len next) → i < records_in rs → keep + len ≤ length ps - used.0
       → Ran id s end version n (i + 1) next (path_at (used.0 + (keep + len))) false (keep + len) (marked s at.0 sparse) (put_record id s at.0 flags used.0 (used.0 + (keep + len)) rs i)
       (paste ps used.0 (path_of s ps keep suffix.0 len prev used.0) (keep + len)) o
       → Ran id s end version (suc n) i at used first prev sparse rs ps o
 
 module _ (id : ℕ) (s : List ℕ) (end : FileAt) (version : ℕ) where
   room_turn : {n i : ℕ} {at : FileAt} {used : PathAt} {first : Bool} {prev : ℕ} {sparse : Bool} {rs ps : List ℕ} {o : Outcome} {t u : Bool} (flags keep : ℕ) (suffix : FileAt) (len : ℕ) (next : FileAt)
-      → measure_at id s at.0 end.0 version first prev ≡ Entry flags keep suffix len next → AtMost (records_in rs) i t → Less (length ps - used.0) (keep + len) u
+      → measure_at id s at.0 end.0 version first prev ≡ Ok (measured_as flags keep suffix len next) → AtMost (records_in rs) i t → Less (length ps - used.0) (keep + len) u
       → Ran id s end version n (i + 1) next (path_at (used.0 + (keep + len))) false (keep + len) (marked s at.0 sparse) (put_record id s at.0 flags used.0 (used.0 + (keep + len)) rs i)
       (paste ps used.0 (path_of s ps keep suffix.0 len prev used.0) (keep + len)) o
-      → Ran id s end version (suc n) i at used first prev sparse rs ps (pick t (outcome (NoRoom i) rs ps) (pick u (outcome (NoRoom i) rs ps) o))
+      → Ran id s end version (suc n) i at used first prev sparse rs ps (pick t (outcome (Err (NoRoom i)) rs ps) (pick u (outcome (Err (NoRoom i)) rs ps) o))
   room_turn flags keep suffix len next e (at_most h) k r = full
   room_turn flags keep suffix len next e (above h) (less k) r = full
   room_turn flags keep suffix len next e (above h) (not_less k) r = stored flags keep suffix len next e h k r
@@ -56,27 +60,27 @@ module _ (id : ℕ) (s : List ℕ) (end : FileAt) (version : ℕ) where
   ran zero i at used first prev sparse rs ps = done
   ran (suc n) i at used first prev sparse rs ps = go (measure_at id s at.0 end.0 version first prev) refl (ran n (i + 1))
     where
-      go : (m : Measured) → measure_at id s at.0 end.0 version first prev ≡ m
+      go : (m : Result Measured Unspelled) → measure_at id s at.0 end.0 version first prev ≡ m
           → ((at' : FileAt) (used' : PathAt) (first' : Bool) (prev' : ℕ) (sparse' : Bool) (rs' ps' : List ℕ) → Ran id s end version n (i + 1) at' used' first' prev' sparse' rs' ps' (run id s end version n (i + 1) at' used' first' prev' sparse' rs' ps'))
           → Ran id s end version (suc n) i at used first prev sparse rs ps
-          (on_measured m (outcome (NotSpelled i) rs ps)
+          (on_measured m (outcome (Err (NotSpelled i)) rs ps)
           (λ flags keep suffix len next.
-          pick (leb (records_in rs) i) (outcome (NoRoom i) rs ps)
-          (pick (ltb (length ps - used.0) (keep + len)) (outcome (NoRoom i) rs ps)
+          pick (leb (records_in rs) i) (outcome (Err (NoRoom i)) rs ps)
+          (pick (ltb (length ps - used.0) (keep + len)) (outcome (Err (NoRoom i)) rs ps)
           (run id s end version n (i + 1) next (path_at (used.0 + (keep + len))) false (keep + len) (marked s at.0 sparse) (put_record id s at.0 flags used.0 (used.0 + (keep + len)) rs i)
           (paste ps used.0 (path_of s ps keep suffix.0 len prev used.0) (keep + len))))))
-      go Short e ih = unspelled
-      go Fault e ih = unspelled
-      go (Entry flags keep suffix len next) e ih =
-          room_turn flags keep suffix len next e (at_most? (records_in rs) i) (less? (length ps - used.0) (keep + len))
-          (ih next (path_at (used.0 + (keep + len))) false (keep + len) (marked s at.0 sparse) (put_record id s at.0 flags used.0 (used.0 + (keep + len)) rs i)
-          (paste ps used.0 (path_of s ps keep suffix.0 len prev used.0) (keep + len)))
+      go (Err Short) e ih = unspelled
+      go (Err Fault) e ih = unspelled
+      go (Ok m) e ih =
+          room_turn m.flags m.keep m.suffix m.len m.next e (at_most? (records_in rs) i) (less? (length ps - used.0) (m.keep + m.len))
+          (ih m.next (path_at (used.0 + (m.keep + m.len))) false (m.keep + m.len) (marked s at.0 sparse) (put_record id s at.0 m.flags used.0 (used.0 + (m.keep + m.len)) rs i)
+          (paste ps used.0 (path_of s ps m.keep m.suffix.0 m.len prev used.0) (m.keep + m.len)))
 
 -- how far a run came: the number of the first entry that is not stored
-abbrev pub reached : ℕ → ℕ → Answer → ℕ
-reached n i (Done next used sparse) = i + n
-reached n i (NotSpelled k) = k
-reached n i (NoRoom k) = k
+abbrev pub reached : ℕ → ℕ → Result Done EntriesError → ℕ
+reached n i (Ok d) = i + n
+reached n i (Err (NotSpelled k)) = k
+reached n i (Err (NoRoom k)) = k
 
 take-before : (j : ℕ) (d : List ℕ) (to : ℕ) (x : List ℕ) (n : ℕ) → j ≤ to → to ≤ length d → take j (paste d to x n) ≡ take j d
 take-before j d to x n h k =
@@ -94,7 +98,7 @@ record Turn (id : ℕ) (s rs ps rs' ps' : List ℕ) (end : FileAt) (at : FileAt)
   stops : next.0 ≤ end.0
 
 module _ (id : ℕ) (hid : id ≤ 32) (s : List ℕ) (end : FileAt) (version : ℕ) where
-  turn : (i : ℕ) (at : FileAt) (used : ℕ) (first : Bool) (prev : ℕ) (rs ps : List ℕ) (flags keep : ℕ) (suffix : FileAt) (len : ℕ) (next : FileAt) → measure_at id s at.0 end.0 version first prev ≡ Entry flags keep suffix len next
+  turn : (i : ℕ) (at : FileAt) (used : ℕ) (first : Bool) (prev : ℕ) (rs ps : List ℕ) (flags keep : ℕ) (suffix : FileAt) (len : ℕ) (next : FileAt) → measure_at id s at.0 end.0 version first prev ≡ Ok (measured_as flags keep suffix len next)
       → prev ≤ used → used ≤ length ps → keep + len ≤ length ps - used
       → Turn id s rs ps (put_record id s at.0 flags used (used + (keep + len)) rs i) (paste ps used (path_of s ps keep suffix.0 len prev used) (keep + len)) end at used prev keep len next
   unfolding path_of
@@ -137,12 +141,11 @@ module _ (id : ℕ) (hid : id ≤ 32) (s : List ℕ) (end : FileAt) (version : �
     pub slots : (n ≡ 0) ⊎ (i + n ≤ records_in rs)
 
   pub done_reaches : {n i : ℕ} {at : FileAt} {used : PathAt} {first : Bool} {prev : ℕ} {sparse : Bool} {rs ps : List ℕ} {o : Outcome} → Ran id s end version n i at used first prev sparse rs ps o → prev ≤ used.0 → used.0 ≤ length ps
-      → (next : FileAt) (used' : PathAt) (sparse' : Bool) → o.answer ≡ Done next used' sparse' → Reaches n i at.0 used.0 rs ps next.0 used'.0
+      → (next : FileAt) (used' : PathAt) (sparse' : Bool) → o.answer ≡ Ok (done_at next used' sparse') → Reaches n i at.0 used.0 rs ps next.0 used'.0
   done_reaches (done {at = at} {used = used}) hp hu next used' sparse' q =
-      let a : at ≡ next = cc in
-      let b : used ≡ used' = cc in
-      let a' : at.0 ≡ next.0 = ap (λ (y : FileAt). y.0) a in
-      let b' : used.0 ≡ used'.0 = ap (λ (y : PathAt). y.0) b in
+      let parts = done_same q in
+      let a : at.0 ≡ next.0 = ap (λ (y : FileAt). y.0) parts.next in
+      let b : used.0 ≡ used'.0 = ap (λ (y : PathAt). y.0) parts.used in
       record { forth = omega arith; stops = λ h. omega arith; grows = omega arith; within = omega arith; slots = inl refl }
   done_reaches unspelled hp hu next used' sparse' q = let z : ◌≡◌ {A = ℕ} 0 1 = cc in absurd (omega arith)
   done_reaches full hp hu next used' sparse' q = let z : ◌≡◌ {A = ℕ} 0 1 = cc in absurd (omega arith)
@@ -208,18 +211,17 @@ module _ (id : ℕ) (hid : id ≤ 32) (s : List ℕ) (end : FileAt) (version : �
       rw q (inside_kept r (omega arith) (omega (arith, t.paths, t.ends)) i (omega arith) ∙ here))
       (lt_or_ge i j)
     where
-      next_reached : (x : Answer) → j < reached (suc n) i x → j < reached n (i + 1) x
-      next_reached (Done y u z) k = omega arith
-      next_reached (NotSpelled y) k = k
-      next_reached (NoRoom y) k = k
+      next_reached : (x : Result Done EntriesError) → j < reached (suc n) i x → j < reached n (i + 1) x
+      next_reached (Ok d) k = omega arith
+      next_reached (Err (NotSpelled y)) k = k
+      next_reached (Err (NoRoom y)) k = k
 
 -- ---- a run whose caller says what is so
 
-pub least_left : (a b : ℕ) → a ≤ b → a ≡ least a b
-unfolding least
-least_left a b h = sym (rw (le-ltb b a h))
+pub least_left : (a b : ℕ) → a ≤ b → a ≡ min a b
+least_left a b h = omega arith
 
 module _ (id : ℕ) (s : List ℕ) (end : FileAt) (version n i : ℕ) (at : FileAt) (before : Start) (rs ps : List ℕ) where
-  pub read_is_run : before.used.0 ≤ length ps → before.length ≤ before.used.0 → read_entries id s end version n i at before rs ps ≡ run id s end version n i at before.used before.first before.length false rs ps
+  pub read_is_run : before.used.0 ≤ length ps → unwrap_or before.path 0 ≤ before.used.0 → read_entries id s end version n i at before rs ps ≡ run id s end version n i at before.used (is_none before.path) (unwrap_or before.path 0) false rs ps
   unfolding read_entries
-  read_is_run h k = rw (← (least_left before.used.0 (length ps) h), ← (least_left before.length before.used.0 k))
+  read_is_run h k = rw (← (least_left before.used.0 (length ps) h), ← (least_left (unwrap_or before.path 0) before.used.0 k))

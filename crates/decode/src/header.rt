@@ -9,30 +9,37 @@ const LEAST: usize = 32;
 // "DIRC" as one big-endian number.
 const SIGNATURE: u32 = 1145655875;
 
-// What a header says, or which refusal it meets.
-#[derive(Drop)]
-pub enum Header {
-    Opens { version: u32, entries: u32 },
+// What a header says. The version is a number, as C is told it and gives it.
+#[derive(Clone, Copy)]
+pub struct Header {
+    pub version: u32,
+    pub entries: u32,
+}
+
+// Which refusal it meets.
+#[derive(Clone, Copy)]
+pub enum Error {
     ShortFile,
     NoSignature,
     OtherVersion(u32),
 }
 
 // Reads the header; the three refusals are tried in 01's order.
-pub fn decode(file: &[u8]) -> Header
+#[tactic(auto, unfolding(crate::specs::Header::header_at, crate::specs::Header::on_version))]
+pub fn decode(file: &[u8]) -> Result<Header, Error>
     ensures { result ≡ header_at id_size file.now }
 {
     if file.len() < LEAST {
-        return Header::ShortFile;
+        return Err(Error::ShortFile);
     }
     let signature = wire::be32(file, 0);
     if signature != SIGNATURE {
-        return Header::NoSignature;
+        return Err(Error::NoSignature);
     }
     let version = wire::be32(file, 4);
     let entries = wire::be32(file, 8);
     match version {
-        2 | 3 | 4 => Header::Opens { version, entries },
-        _ => Header::OtherVersion(version),
+        2..=4 => Ok(Header { version, entries }),
+        _ => Err(Error::OtherVersion(version)),
     }
 }

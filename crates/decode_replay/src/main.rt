@@ -3,260 +3,231 @@
 
 #![tactic(auto)]
 
-ghost use Rattle.std.specs.Prelude.{◌<◌, ◌≤◌};
+ghost use Rattle.std.specs.Prelude.{◌<◌, length, IfSome};
+ghost use Rattle.std.specs.Iterator.{at_most};
 
-use decode::entries::{Answer, Before};
+use decode::entries::{Before, Done, Error};
+use std::io::Result;
 use wire::{FileAt, PathAt};
 
-// The numbers before a case's block, of two bytes each.
+// The most that is read of the list of cases.
+const LIST_ROOM: usize = 131072;
+
+// A case begins with eleven numbers, of two bytes each.
+const NUMBERS: usize = 11;
+
 const HEAD: usize = 22;
 
-const ROOM: usize = 131072;
+const RECORD: usize = 96;
 
-// The Rust's answer to a case.
+// The refusal of an entry that is not spelled.
+const NOT_SPELLED: u16 = 5;
+
+// A known difference, by its name in docs/DIFFERENCES.md.
+#[derive(Clone, Copy)]
+enum Difference {
+    D2,
+    D3,
+    D4,
+    D16,
+    Unnamed,
+}
+
+impl Difference {
+    // The difference that a case's first number names; 0 names none.
+    fn of(number: u16) -> Option<Difference> {
+        match number {
+            0 => None,
+            2 => Some(Difference::D2),
+            3 => Some(Difference::D3),
+            4 => Some(Difference::D4),
+            16 => Some(Difference::D16),
+            _ => Some(Difference::Unnamed),
+        }
+    }
+}
+
+// What the Rust answers: where the entries end and whether the index is sparse, the entry that is not spelled, or what this reader never answers.
+#[derive(Clone, Copy)]
+enum Told {
+    Done { next: u16, sparse: bool },
+    NotSpelled(u16),
+    Never,
+}
+
+impl Told {
+    // What the numbers of a case say: 0 or a refusal's number, and what goes with it.
+    fn of(number: u16, value: u16, sparse: u16, next: u16) -> Told {
+        match (number, sparse) {
+            (0, 0 | 1) => Told::Done {
+                next,
+                sparse: sparse == 1,
+            },
+            (NOT_SPELLED, _) => Told::NotSpelled(value),
+            _ => Told::Never,
+        }
+    }
+}
+
+// An entry block and how it is to be read, and what the Rust makes of it: its answer, the records and the paths.
 #[derive(Drop)]
-struct Told {
-    number: usize,
-    value: usize,
-    sparse: usize,
-    next: usize,
-    used: usize,
+struct Case<'a> {
+    version: u16,
+    count: u16,
+    trailer: u16,
+    block: &'a [u8],
+    told: Told,
+    records: &'a [u8],
+    paths: &'a [u8],
 }
 
-// Where its block, records and paths stand in the input, and where it ends.
+fn numbers(head: &[u8; HEAD]) -> [u16; NUMBERS] {
+    let mut numbers = [0; NUMBERS];
+    for (number, pair) in numbers.iter_mut().zip(head.as_chunks::<2>().0) {
+        *number = u16::from_be_bytes(*pair);
+    }
+    numbers
+}
+
+impl<'a> Case<'a> {
+    // The case that the bytes begin with, and the bytes behind it.
+    fn split_first(bytes: &'a [u8]) -> Option<(Case<'a>, &'a [u8])>
+        ensures { IfSome result (λ parts. length parts.1.now < length bytes.now) }
+    {
+        let (head, rest) = bytes.split_first_chunk::<HEAD>()?;
+        let [
+            _,
+            version,
+            count,
+            number,
+            value,
+            sparse,
+            trailer,
+            size,
+            next,
+            used,
+            rows,
+        ] = numbers(head);
+        let (block, rest) = rest.split_at_checked(usize::from(size))?;
+        let (records, rest) = rest.split_at_checked(usize::from(rows) * RECORD)?;
+        let (paths, rest) = rest.split_at_checked(usize::from(used))?;
+        let case = Case {
+            version,
+            count,
+            trailer,
+            block,
+            told: Told::of(number, value, sparse, next),
+            records,
+            paths,
+        };
+        Some((case, rest))
+    }
+
+    // Whether this reader answers what the Rust answered.
+    fn is_answered(&self, answer: std::result::Result<Done, Error>) -> bool {
+        match (answer, self.told) {
+            (Ok(run), Told::Done { next, sparse }) => {
+                let ends_alike = run.next.0 == usize::from(next) && run.used.0 == self.paths.len();
+                ends_alike && run.sparse == sparse
+            }
+            (Err(Error::NotSpelled(k)), Told::NotSpelled(index)) => k == usize::from(index),
+            _ => false,
+        }
+    }
+
+    // Whether this reader and the Rust agree: the answer, the records and the paths.
+    fn agrees(&self) -> bool {
+        // arrays, whose size is known, since the stores of all cases have one size and no memory can lack
+        let mut records = [0u8; 768];
+        let mut paths = [0u8; 512];
+        let before = Before {
+            used: PathAt(0),
+            path: None,
+        };
+        let end = self.block.len().saturating_sub(usize::from(self.trailer));
+        let answer = decode::entries::read_entries(
+            self.block,
+            FileAt(0),
+            FileAt(end),
+            u32::from(self.version),
+            usize::from(self.count),
+            0,
+            before,
+            &mut records,
+            &mut paths,
+        );
+        self.is_answered(answer)
+            && records.starts_with(self.records)
+            && paths.starts_with(self.paths)
+    }
+}
+
+// The cases of a list, each with its known difference, if any. Behind the list stand as many zeros as its room has left: a case that is
+// cut short goes on with them, and one that reaches beyond them has no parts.
 #[derive(Drop)]
-struct Places {
-    block: usize,
-    rows: usize,
-    texts: usize,
-    stop: usize,
+struct Cases<'a> {
+    rest: &'a [u8],
+    zeros: usize,
 }
 
-fn wide(x: u8) -> usize
-    ensures { result < 256 }
-{
-    x as usize
-}
+impl<'a> Iterator for Cases<'a> {
+    type Item = (Option<Difference>, Option<Case<'a>>);
 
-// Number k of the case at `base`; 0 past the input.
-fn number(data: &[u8; 131072], base: usize, k: usize) -> usize
-    requires { k < 11 }
-    ensures { result < 65536 }
-{
-    if ROOM - HEAD < base {
-        return 0;
-    }
-    let i = base + k * 2;
-    wide(data[i]) * 256 + wide(data[i + 1])
-}
+    ghost remaining = { λ s. at_most (length s.rest.now) };
 
-fn told_at(data: &[u8; 131072], base: usize) -> Told {
-    Told {
-        number: number(data, base, 3),
-        value: number(data, base, 4),
-        sparse: number(data, base, 5),
-        next: number(data, base, 8),
-        used: number(data, base, 9),
-    }
-}
-
-// Where the parts of the case at `base` stand; it takes at least the numbers.
-fn places_at(data: &[u8; 131072], base: usize) -> Places
-    requires { base < 131072 }
-    ensures { (base < result.stop) × (result.stop < 10000000) }
-{
-    let block = base + HEAD;
-    let rows = block + number(data, base, 7);
-    let texts = rows + number(data, base, 10) * 96;
-    let stop = texts + number(data, base, 9);
-    Places {
-        block,
-        rows,
-        texts,
-        stop,
-    }
-}
-
-fn bit(b: bool) -> usize {
-    if b {
-        return 1;
-    }
-    0
-}
-
-// Whether an answer is the one that the Rust gave.
-fn answers(a: Answer, t: Told) -> bool {
-    match a {
-        Answer::Done { next, used, sparse } => {
-            t.number == 0 && next.0 == t.next && used.0 == t.used && bit(sparse) == t.sparse
+    fn next(&mut self) -> Option<(Option<Difference>, Option<Case<'a>>)> {
+        if self.rest.len() <= self.zeros {
+            return None;
         }
-        Answer::NotSpelled(k) => t.number == 5 && k == t.value,
-        Answer::NoRoom(_) => false,
-    }
-}
-
-// Whether n bytes of a store are those of the input from `from` on.
-fn holds(store: &[u8], data: &[u8; 131072], from: usize, n: usize) -> bool {
-    if ROOM < from {
-        return false;
-    }
-    if ROOM - from < n {
-        return false;
-    }
-    if store.len() < n {
-        return false;
-    }
-    slices::same(store, 0, data, from, n)
-}
-
-// Reads the entries of the block that lies from `block` to `rows`, but for a trailer.
-fn read_block(
-    all: &[u8],
-    block: usize,
-    rows: usize,
-    version: u32,
-    count: usize,
-    trailer: usize,
-    records: &mut [u8],
-    paths: &mut [u8],
-) -> Answer {
-    if all.len() < rows {
-        return Answer::NoRoom(0);
-    }
-    if rows < block {
-        return Answer::NoRoom(0);
-    }
-    let file = &all[block..rows];
-    let end = sums::saturating_sub(file.len(), trailer);
-    let before = Before {
-        used: PathAt(0),
-        first: true,
-        length: 0,
-    };
-    decode::entries::read_entries(
-        file,
-        FileAt(0),
-        FileAt(end),
-        version,
-        count,
-        0,
-        before,
-        records,
-        paths,
-    )
-}
-
-// Whether this reader and the Rust agree on a case: the answer, the records and the paths.
-fn agrees(
-    data: &[u8; 131072],
-    version: usize,
-    count: usize,
-    trailer: usize,
-    t: Told,
-    p: Places,
-) -> bool {
-    let block = p.block;
-    let rows = p.rows;
-    let texts = p.texts;
-    let stop = p.stop;
-    let mut records = [0u8; 768];
-    let mut paths = [0u8; 512];
-    let a = read_block(
-        data,
-        block,
-        rows,
-        narrow(version),
-        count,
-        trailer,
-        &mut records,
-        &mut paths,
-    );
-    if answers(a, t) {
-        if holds(&records, data, rows, sums::saturating_sub(texts, rows)) {
-            return holds(&paths, data, texts, sums::saturating_sub(stop, texts));
+        let known = match self.rest.first_chunk::<HEAD>() {
+            Some(head) => Difference::of(numbers(head)[0]),
+            None => None,
+        };
+        if let Some((case, rest)) = Case::split_first(self.rest) {
+            self.rest = rest;
+            Some((known, Some(case)))
+        } else {
+            self.rest = &[];
+            Some((known, None))
         }
     }
-    false
 }
 
-fn narrow(version: usize) -> u32 {
-    if version < 65536 {
-        return version as u32;
-    }
-    0
-}
-
-// One line: a word and a number.
-fn say(word: &[u8], n: usize) {
-    io::write_all(1, word);
-    io::print_decimal(1, n as u64);
-    io::write_all(1, b"\n");
-}
-
-// Names a case on which the two part; 1 where they agree.
-fn judge(same: bool, known: usize, i: usize) -> usize
-    ensures { result ≤ 1 }
-{
-    if same {
-        if known != 0 {
-            say(b"agreed after all: case ", i);
-            return 0;
+// Names case i where the two part, or agree in spite of a known difference.
+fn show_case(rt: &impl Print, i: usize, known: Option<Difference>, agrees: bool) -> Result<()> {
+    match (agrees, known) {
+        (true, None) => Ok(()),
+        (true, Some(_)) => println!(rt; "agreed after all: case {i}"),
+        (false, Some(Difference::D2)) => println!(rt; "D2 (a number above 2^64 - 1): case {i}"),
+        (false, Some(Difference::D3)) => {
+            println!(rt; "D3 (padding behind the NUL of a length field of 4095): case {i}")
         }
-        return 1;
-    }
-    match known {
-        2 => say(b"D2 (a number above 2^64 - 1): case ", i),
-        3 => say(
-            b"D3 (padding behind the NUL of a length field of 4095): case ",
-            i,
+        (false, Some(Difference::D4)) => println!(rt;
+            "D4 (an entry that reaches into the trailer): case {i}"
         ),
-        4 => say(b"D4 (an entry that reaches into the trailer): case ", i),
-        16 => say(b"D16 (a NUL as the last byte): case ", i),
-        _ => say(b"not known: case ", i),
+        (false, Some(Difference::D16)) => println!(rt; "D16 (a NUL as the last byte): case {i}"),
+        (false, Some(Difference::Unnamed) | None) => println!(rt; "not known: case {i}"),
     }
-    0
 }
 
-// One case at `base`: 1 where the two agree.
-fn replay_one(data: &[u8; 131072], base: usize, i: usize) -> usize
-    requires { base < 131072 }
-    ensures { result ≤ 1 }
-{
-    let p = places_at(data, base);
-    let t = told_at(data, base);
-    let version = number(data, base, 1);
-    let count = number(data, base, 2);
-    let trailer = number(data, base, 6);
-    let same = agrees(data, version, count, trailer, t, p);
-    judge(same, number(data, base, 0), i)
-}
-
-fn next_case(data: &[u8; 131072], base: usize) -> usize
-    requires { base < 131072 }
-    ensures { (base < result) × (result < 10000000) }
-{
-    let p = places_at(data, base);
-    p.stop
-}
-
-fn replay(data: &[u8; 131072], n: usize) {
-    let mut base: usize = 0;
-    let mut i: usize = 0;
-    let mut same: usize = 0;
-    while base < ROOM {
-        if n <= base {
-            break;
-        }
-        same += replay_one(data, base, i);
-        base = next_case(data, base);
-        i += 1;
+fn replay(rt: &impl Print, list: &[u8], zeros: usize) {
+    let mut cases = 0usize;
+    let mut same = 0usize;
+    for (known, case) in (Cases { rest: list, zeros }) {
+        let agrees = case.is_some_and(|case| case.agrees());
+        // what cannot be printed is left out
+        let _ = show_case(rt, cases, known, agrees);
+        same = same.saturating_add(usize::from(agrees && known.is_none()));
+        cases = cases.saturating_add(1);
     }
-    say(b"cases: ", i);
-    say(b"the same answer, records and paths: ", same);
+    let _ = println!(rt; "cases: {cases}");
+    let _ = println!(rt; "the same answer, records and paths: {same}");
 }
 
-fn main() {
-    let mut data = [0u8; 131072];
-    let n = io::read_full(0, &mut data);
-    replay(&data, n);
+fn main(rt: HostRuntime) -> Result<()> {
+    let mut list = replay::read_up_to(rt.stdin(), LIST_ROOM, rt.alloc())?;
+    let zeros = LIST_ROOM - list.len();
+    list.resize(LIST_ROOM, 0)?;
+    replay(&rt, &list, zeros);
+    Ok(())
 }

@@ -1,12 +1,10 @@
 -- The flags of an entry (01, How an entry is spelled, and entry/flags.rs for the numbers of bits): the stage, the bits that a writer tests, and how the file's bits
 -- become the record's and back. Assumes nothing.
-use Rattle.std.specs.Prelude.{ℕ, ◌+◌, ◌*◌, ◌/◌, ◌%◌, ◌^◌, ◌<◌, Bool, ◌≡◌, ltb, eqb}
+use Rattle.std.specs.Prelude.{ℕ, ◌+◌, ◌*◌, ◌/◌, ◌%◌, ◌^◌, ◌<◌, Bool, ◌≡◌, ltb, eqb, None, Option, Some}
 use Rattle.std.proofs.Common.{ap, arith, le-ltb, eq-eqb}
 use Rattle.laws.specs.Pick.{pick}
 use Rattle.entry.specs.declared.flags.Stage.{Stage}
 use Rattle.entry.specs.declared.flags.Stage.TheVariants.{Unconflicted, Base, Ours, Theirs}
-use Rattle.entry.specs.declared.flags.Extended.{Extended}
-use Rattle.entry.specs.declared.flags.Extended.TheVariants.{Kept, Unknown}
 
 -- bits 12 and 13
 abbrev pub stage_raw : ℕ → ℕ
@@ -30,8 +28,8 @@ abbrev pub to_memory : ℕ → ℕ
 to_memory word = word / 2 ^ 12 * 2 ^ 12
 
 -- of the 16 bits behind EXTENDED 13 and 14 become 29 and 30, and no other may be set
-unfoldable pub extended_to_memory : ℕ → Extended
-extended_to_memory word = pick (ltb 32767 word) Unknown (pick (eqb (word % 2 ^ 13) 0) (Kept (word * 2 ^ 16)) Unknown)
+unfoldable pub extended_to_memory : ℕ → Option ℕ
+extended_to_memory word = pick (ltb 32767 word) None (pick (eqb (word % 2 ^ 13) 0) (Some (word * 2 ^ 16)) None)
 
 abbrev pub to_storage : ℕ → ℕ
 to_storage flags = flags / 2 ^ 12 % 16 * 2 ^ 12
@@ -52,9 +50,9 @@ pub stored_is_kept : (flags len : ℕ) → len < 2 ^ 12 → to_memory (to_storag
 stored_is_kept flags len h = omega arith
 
 -- a writer's second word has no unknown bit
-pub stored_is_known : (flags : ℕ) → extended_to_memory (extended_to_storage flags) ≡ Kept (flags / 2 ^ 29 % 4 * 2 ^ 29)
+pub stored_is_known : (flags : ℕ) → extended_to_memory (extended_to_storage flags) ≡ Some (flags / 2 ^ 29 % 4 * 2 ^ 29)
 unfolding extended_to_memory
 stored_is_known flags =
     let word : ℕ = extended_to_storage flags in
     let e : word * 2 ^ 16 ≡ flags / 2 ^ 29 % 4 * 2 ^ 29 = omega arith in
-    rw (le-ltb 32767 word (omega arith), eq-eqb (word % 2 ^ 13) 0 (omega arith)) (ap Kept e)
+    rw (le-ltb 32767 word (omega arith), eq-eqb (word % 2 ^ 13) 0 (omega arith)) (ap Some e)

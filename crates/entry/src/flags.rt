@@ -3,7 +3,7 @@ ghost use Rattle.std.specs.Prelude.{◌≡◌};
 ghost use Rattle.entry.specs.Flags.{stage_raw, stage_of, bit, extended, removed, to_memory, extended_to_memory, to_storage, extended_to_storage};
 
 // The stage of an entry.
-#[derive(Drop)]
+#[derive(Clone, Copy)]
 pub enum Stage {
     // no conflict
     Unconflicted,
@@ -13,18 +13,18 @@ pub enum Stage {
     Theirs,
 }
 
-// The stage as a number from 0 to 3: bits 12 and 13.
+// The stage as a number from 0 to 3, as C is told it and as records are ordered: bits 12 and 13.
 pub fn stage_raw(flags: u32) -> u32
     ensures { result ≡ stage_raw flags }
 {
     flags / 4096 % 4
 }
 
+#[tactic(auto, unfolding(crate::specs::Flags::stage_of))]
 pub fn stage_of(flags: u32) -> Stage
     ensures { result ≡ stage_of flags }
 {
-    let raw = stage_raw(flags);
-    match raw {
+    match stage_raw(flags) {
         0 => Stage::Unconflicted,
         1 => Stage::Base,
         2 => Stage::Ours,
@@ -53,28 +53,15 @@ pub fn to_memory(word: u16) -> u32
     (word as u32) / 4096 * 4096
 }
 
-// What the 16 bits behind EXTENDED come to.
-#[derive(Drop)]
-pub enum Extended {
-    // bits 29 and 30 of the record's flags
-    Kept(u32),
-    // a bit is set that has no meaning
-    Unknown,
-}
-
-// Bits 13 and 14 become 29 and 30; no other may be set.
-pub fn extended_to_memory(word: u16) -> Extended
+// What the 16 bits behind EXTENDED come to: bits 13 and 14 become 29 and 30 of the record's flags; none where another is set, which has no meaning.
+#[tactic(auto, unfolding(crate::specs::Flags::extended_to_memory))]
+pub fn extended_to_memory(word: u16) -> Option<u32>
     ensures { result ≡ extended_to_memory word }
 {
-    if 32767 < word {
-        return Extended::Unknown;
+    if 32767 < word || word % 8192 != 0 {
+        return None;
     }
-    let low = word % 8192;
-    if low == 0 {
-        Extended::Kept((word as u32) * 65536)
-    } else {
-        Extended::Unknown
-    }
+    Some((word as u32) * 65536)
 }
 
 // The file's 16 bits from a record's flags, with no path length.

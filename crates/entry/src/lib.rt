@@ -37,8 +37,7 @@ fn put_front(file: &[u8], at: usize, slot: &mut [u8])
     requires id_size_in_bounds_2 { id_place + id_size ≤ length slot.old }
     ensures { slot.new ≡ paste slot.old 0 (front_of id_size file.now at) (id_place + id_size) }
 {
-    let m = wire::be32(file, at + MODE_AT);
-    let k = mode::keep_mode(m);
+    let k = mode::keep_mode(wire::be32(file, at + MODE_AT));
     slices::copy_bytes(file, at, MODE_AT, slot, 0);
     wire::put32(slot, MODE_AT, k);
     slices::copy_bytes(file, at + MODE_END, ZEROS_AT - MODE_END, slot, MODE_END);
@@ -58,6 +57,7 @@ fn put_rest(slot: &mut [u8], flags: u32, start: usize, end: usize)
 
 // Writes record i, of the entry at `at`; nothing where the entry's bytes or the record are not there. The record is made in an array first: the compiler knows
 // that this overlaps neither slice, and copies 16 bytes at a time.
+#[tactic(auto, unfolding(crate::specs::Record::put_record))]
 pub fn put_record(
     file: &[u8],
     at: usize,
@@ -69,13 +69,7 @@ pub fn put_record(
 )
     ensures { records.new ≡ put_record id_size file.now at flags start end records.old i }
 {
-    if file.len() < ZEROS_AT {
-        return;
-    }
-    if file.len() - ZEROS_AT < at {
-        return;
-    }
-    if records.len() / RECORD_SIZE <= i {
+    if file.len() < ZEROS_AT || file.len() - ZEROS_AT < at || records_in(records) <= i {
         return;
     }
     let base = i * RECORD_SIZE;
@@ -93,23 +87,26 @@ pub fn records_in(records: &[u8]) -> usize
 }
 
 // The four bytes at k of record i; 0 where there is no such record.
+#[tactic(auto, unfolding(crate::specs::Record::field_at))]
 fn field32(records: &[u8], i: usize, k: usize) -> u32
     requires { k + 4 ≤ record_size }
     ensures { result ≡ field_at 4 k records.now i }
 {
-    if i < records.len() / RECORD_SIZE {
+    if i < records_in(records) {
         wire::be32(records, i * RECORD_SIZE + k)
     } else {
         0
     }
 }
 
-// The eight bytes at k of record i; 0 where there is no such record.
+// The eight bytes at k of record i; 0 where there is no such record. It stays a function of its own: one for both would take the reader as a closure and say more in its
+// contract than the two do.
+#[tactic(auto, unfolding(crate::specs::Record::field_at))]
 fn field64(records: &[u8], i: usize, k: usize) -> u64
     requires { k + 8 ≤ record_size }
     ensures { result ≡ field_at 8 k records.now i }
 {
-    if i < records.len() / RECORD_SIZE {
+    if i < records_in(records) {
         wire::be64(records, i * RECORD_SIZE + k)
     } else {
         0
@@ -148,11 +145,12 @@ pub fn path_end_at(records: &[u8], i: usize) -> u64
 }
 
 // The id of record i; zeros where there is no such record.
+#[tactic(auto, unfolding(crate::specs::Record::id_at))]
 pub fn id_at(records: &[u8], i: usize) -> [u8; format::ID_SIZE]
     ensures { result ≡ id_at id_size records.now i }
 {
     let mut id = [0u8; format::ID_SIZE];
-    if records.len() / RECORD_SIZE <= i {
+    if records_in(records) <= i {
         return id;
     }
     slices::copy_bytes(
@@ -166,34 +164,27 @@ pub fn id_at(records: &[u8], i: usize) -> [u8; format::ID_SIZE]
 }
 
 // Whether record i is there and its path lies in the path store.
+#[tactic(auto, unfolding(crate::specs::Record::lies_inside))]
 pub fn lies_inside(records: &[u8], paths: &[u8], i: usize) -> bool
     ensures { result ≡ lies_inside records.now (lying_in paths.now) i }
 {
-    if records.len() / RECORD_SIZE <= i {
+    if records_in(records) <= i {
         return false;
     }
     let start = path_start_at(records, i) as usize;
     let end = path_end_at(records, i) as usize;
-    if end < start {
-        return false;
-    }
-    end <= paths.len()
+    start <= end && end <= paths.len()
 }
 
 // The path of record i, a part of the path store; the empty part where it lies outside. Nobody asks for a path in another way.
+#[tactic(auto, unfolding(crate::specs::Record::path_at, crate::specs::Record::lies_inside))]
 pub fn path_of<'a>(records: &[u8], paths: &'a [u8], i: usize) -> &'a [u8]
     ensures { result.now ≡ path_at records.now (lying_in paths.now) i }
 {
-    if records.len() / RECORD_SIZE <= i {
+    if records_in(records) <= i {
         return &paths[0..0];
     }
     let start = path_start_at(records, i) as usize;
     let end = path_end_at(records, i) as usize;
-    if end < start {
-        return &paths[0..0];
-    }
-    if paths.len() < end {
-        return &paths[0..0];
-    }
-    &paths[start..end]
+    paths.get(start..end).unwrap_or(&paths[0..0])
 }

@@ -11,6 +11,7 @@ pub const MODE_END: usize = 28;
 pub const DIR: u32 = 16384;
 
 // The bits of octal 160755 of a mode.
+#[tactic(auto, unfolding(crate::specs::Mode::keep_mode))]
 pub fn keep_mode(m: u32) -> u32
     ensures { result ≡ keep_mode m }
 {
@@ -18,16 +19,12 @@ pub fn keep_mode(m: u32) -> u32
 }
 
 // Whether the entry at `at` is a directory; no where the file ends before its mode does.
+#[tactic(auto, unfolding(crate::specs::Mode::dir_at))]
 pub fn is_dir(file: &[u8], at: usize) -> bool
     ensures { result ≡ dir_at file.now at }
 {
-    if file.len() < MODE_END {
+    if file.len() < MODE_END || file.len() - MODE_END < at {
         return false;
     }
-    if file.len() - MODE_END < at {
-        return false;
-    }
-    let m = wire::be32(file, at + MODE_AT);
-    let k = keep_mode(m);
-    k == DIR
+    keep_mode(wire::be32(file, at + MODE_AT)) == DIR
 }

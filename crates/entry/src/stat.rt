@@ -19,13 +19,13 @@ const GID_AT: usize = 32;
 
 const SIZE_AT: usize = 36;
 
-#[derive(Drop)]
+#[derive(Clone, Copy)]
 pub struct Time {
     pub secs: u32,
     pub nsecs: u32,
 }
 
-#[derive(Drop)]
+#[derive(Clone, Copy)]
 pub struct Stat {
     pub mtime: Time,
     pub ctime: Time,
@@ -37,6 +37,7 @@ pub struct Stat {
 }
 
 // The time whose seconds stand at k of record i.
+#[tactic(auto, unfolding(crate::specs::Stat::time_of))]
 fn time_at(records: &[u8], i: usize, k: usize) -> Time
     requires { k + 8 ≤ record_size }
     ensures { result ≡ time_of (λ p. field_at 4 p records.now i) k }
@@ -47,6 +48,7 @@ fn time_at(records: &[u8], i: usize, k: usize) -> Time
 }
 
 // What record i holds; zeros where there is no such record.
+#[tactic(auto, unfolding(crate::specs::Stat::stat_at))]
 pub fn stat_at(records: &[u8], i: usize) -> Stat
     ensures { result ≡ stat_at records.now i }
 {

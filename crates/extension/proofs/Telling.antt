@@ -1,6 +1,6 @@
 -- What EOIE's answer says: an offset is told exactly if the 32 bytes before the trailer are an EOIE with that offset, the extensions from it fill the space up to EOIE,
 -- there are some, and the hash is that of their headers. Assumes nothing.
-use Rattle.std.specs.Prelude.{ℕ, ◌+◌, ◌-◌, ◌≤◌, Bool, ◌≡◌, take, drop, eqb}
+use Rattle.std.specs.Prelude.{ℕ, ◌+◌, ◌-◌, ◌≤◌, Bool, ◌≡◌, take, drop, eqb, None, Option, Some}
 use Rattle.std.proofs.Math.Bool.{true, false}
 use mathlib.Core.List.{List, [], ◌∷◌, flatten}
 use Rattle.std.proofs.Math.Path.{refl, subst}
@@ -20,9 +20,7 @@ use Rattle.extension.specs.Iter.{Found, Ending, filled, run_at, body_of, last_wh
 use Rattle.extension.specs.EndOfIndexEntry.{headers_of, last_body, verified_at, offset_at, offset_in}
 use Rattle.extension.specs.Theorems.{by_less, by_same, Chain, chain_filled, chain_stray, chain_more, run_chain, chain_run}
 use Rattle.extension.specs.declared.iter.Body.{Body}
-use Rattle.extension.specs.declared.iter.Body.TheVariants.{Missing}
-use Rattle.extension.specs.declared.end_of_index_entry.Told.{Told}
-use Rattle.extension.specs.declared.end_of_index_entry.Told.TheVariants.{Offset, Nothing}
+use Rattle.wire.specs.declared.FileAt.{FileAt}
 
 -- where EOIE begins, over the length of an id
 abbrev pub beginning : ℕ → List ℕ → ℕ
@@ -42,7 +40,7 @@ pub record Tells (kind : Kind) (s : List ℕ) (offset : ℕ) : Type 0 where
   pub hashed : kind.hash (flatten (headers_of s (first ∷ rest))) ≡ take kind.id (drop (beginning kind.id s + (extension_header_size + offset_size)) s)
 
 -- the last of some extensions ends where the chain does
-pub last_ends : {s : List ℕ} {end at : ℕ} (f : Found) (fs : List Found) {e : Ending} (b : Body) → Chain s end at (f ∷ fs) e
+pub last_ends : {s : List ℕ} {end at : ℕ} (f : Found) (fs : List Found) {e : Ending} (b : Option Body) → Chain s end at (f ∷ fs) e
     → (g : Found) × (last_where (λ x. true) b (f ∷ fs) ≡ body_of g) × Chain s end g.stop.0 [] e
 unfolding last_where
 last_ends f [] b (chain_more w c) = (f, refl, c)
@@ -57,23 +55,23 @@ filled_ends (chain_filled i q) = q
 
 -- ---- what is told is true
 
-pub data SaysTold (kind : Kind) (s : List ℕ) : Told → Type 0 where
-  is_told : {place : FileAt} → Tells kind s place.0 → SaysTold kind s (Offset place)
-  is_nothing : SaysTold kind s Nothing
+pub data SaysTold (kind : Kind) (s : List ℕ) : Option FileAt → Type 0 where
+  is_told : {place : FileAt} → Tells kind s place.0 → SaysTold kind s (Some place)
+  is_nothing : SaysTold kind s None
 
 module _ (kind : Kind) (s : List ℕ) (long : eoie_whole_size kind.id + kind.id ≤ length s) (named : be_at 4 s (beginning kind.id s) ≡ EOIE) (sized : be_at 4 s (beginning kind.id s + 4) ≡ eoie_size kind.id) (offset : ℕ)
     (told : be_at 4 s (beginning kind.id s + 8) ≡ offset) (low : header_size ≤ offset) (high : offset ≤ beginning kind.id s) where
   ended_says : (fs : List Found) {e : Ending} → Chain s (beginning kind.id s) offset fs e → kind.hash (flatten (headers_of s fs)) ≡ take kind.id (drop (beginning kind.id s + (extension_header_size + offset_size)) s)
-      → SaysTold kind s (on_body (last_body fs) Nothing (λ first behind. pick (eqb behind (beginning kind.id s)) (Offset (file_at offset)) Nothing))
+      → SaysTold kind s (on_body (last_body fs) None (λ first behind. pick (eqb behind (beginning kind.id s)) (Some (file_at offset)) None))
   unfolding last_where
   ended_says [] c y = is_nothing
-  ended_says (f ∷ fs) {e} c y = by (last_ends f fs Missing c)
+  ended_says (f ∷ fs) {e} c y = by (last_ends f fs None c)
     where
       by : (g : Found) × (last_where (λ x. true) (body_of f) fs ≡ body_of g) × Chain s (beginning kind.id s) g.stop.0 [] e
-          → SaysTold kind s (on_body (last_where (λ x. true) (body_of f) fs) Nothing (λ first behind. pick (eqb behind (beginning kind.id s)) (Offset (file_at offset)) Nothing))
+          → SaysTold kind s (on_body (last_where (λ x. true) (body_of f) fs) None (λ first behind. pick (eqb behind (beginning kind.id s)) (Some (file_at offset)) None))
       by (g, q, d) = rw q (by_same (SaysTold kind s) g.stop.0 (beginning kind.id s) (λ z. truly z) (λ z. is_nothing))
         where
-          truly : g.stop.0 ≡ beginning kind.id s → SaysTold kind s (Offset (file_at offset))
+          truly : g.stop.0 ≡ beginning kind.id s → SaysTold kind s (Some (file_at offset))
           truly z =
               let l : beginning kind.id s ≤ length s = omega arith in
               let t : Tells kind s offset =
@@ -85,7 +83,7 @@ module _ (kind : Kind) (s : List ℕ) (long : eoie_whole_size kind.id + kind.id 
   verified_says = by (same_bytes (kind.hash (flatten (headers_of s (run_at s offset (beginning kind.id s)).items))) (take kind.id (drop (beginning kind.id s + (extension_header_size + offset_size)) s))) refl
     where
       by : (t : Bool) → same_bytes (kind.hash (flatten (headers_of s (run_at s offset (beginning kind.id s)).items))) (take kind.id (drop (beginning kind.id s + (extension_header_size + offset_size)) s)) ≡ t
-          → SaysTold kind s (pick t (on_body (last_body (run_at s offset (beginning kind.id s)).items) Nothing (λ first behind. pick (eqb behind (beginning kind.id s)) (Offset (file_at offset)) Nothing)) Nothing)
+          → SaysTold kind s (pick t (on_body (last_body (run_at s offset (beginning kind.id s)).items) None (λ first behind. pick (eqb behind (beginning kind.id s)) (Some (file_at offset)) None)) None)
       by true q = ended_says (run_at s offset (beginning kind.id s)).items (run_chain s offset (beginning kind.id s)) (same_equal _ _ q)
       by false q = is_nothing
 
@@ -101,19 +99,19 @@ told_says kind s =
     (λ d. is_nothing))
     (λ d. is_nothing))
 
-pub told_tells : (kind : Kind) (s : List ℕ) (place : FileAt) → offset_in kind s ≡ Offset place → Tells kind s place.0
+pub told_tells : (kind : Kind) (s : List ℕ) (place : FileAt) → offset_in kind s ≡ Some place → Tells kind s place.0
 told_tells kind s place e = by (subst (SaysTold kind s) e (told_says kind s))
   where
-    by : SaysTold kind s (Offset place) → Tells kind s place.0
+    by : SaysTold kind s (Some place) → Tells kind s place.0
     by (is_told t) = t
 
 -- ---- what is true is told
 
-pub tells_told : (kind : Kind) (s : List ℕ) (offset : ℕ) → Tells kind s offset → offset_in kind s ≡ Offset (file_at offset)
+pub tells_told : (kind : Kind) (s : List ℕ) (offset : ℕ) → Tells kind s offset → offset_in kind s ≡ Some (file_at offset)
 unfolding offset_in offset_at verified_at
 tells_told kind s offset t =
     let r : run_at s offset (beginning kind.id s) ≡ record { items = t.first ∷ t.rest; ending = filled } = chain_run t.fills in
-    let l = last_ends t.first t.rest Missing t.fills in
+    let l = last_ends t.first t.rest None t.fills in
     let z : l.0.stop.0 ≡ beginning kind.id s = filled_ends l.2 in
     rw (
       le-ltb (length s) (eoie_whole_size kind.id + kind.id) t.long,

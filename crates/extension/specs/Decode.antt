@@ -1,17 +1,18 @@
 -- The space behind the entries (01, "Extensions": "They fill the space from the last entry to the last 20 bytes exactly"; 02, A4) and rows 7 and 8 of "When the desk says
 -- no". Assumes nothing.
-use Rattle.std.specs.Prelude.{ℕ, Bool, true, false, List, [], ◌∷◌, ltb, leb, eqb}
+use Rattle.std.specs.Prelude.{ℕ, Bool, true, false, List, [], ◌∷◌, ltb, leb, eqb, Err, None, Ok, Option, Result, Some}
 use Rattle.laws.specs.Pick.{pick}
 use Rattle.wire.specs.Places.{file_at}
 use Rattle.wire.specs.declared.FileAt.{FileAt}
 use Rattle.refusal.specs.Refusal as refusal
 use Rattle.extension.specs.Signatures.{TREE, sdir, first_byte}
 use Rattle.extension.specs.Iter.{Found, Ending, filled, stray, Run, run_at, of_signature, last_where}
-use Rattle.extension.specs.declared.iter.Body.{Body}
-use Rattle.extension.specs.declared.iter.Body.TheVariants.{Lies, Missing}
 use Rattle.extension.specs.declared.decode.Bodies.{Bodies}
-use Rattle.extension.specs.declared.decode.Space.{Space}
-use Rattle.extension.specs.declared.decode.Space.TheVariants.{Filled, NotFilled, Mandatory}
+use Rattle.extension.specs.Made.{body_between, filled_by}
+use Rattle.extension.specs.declared.decode.Error.{Error as SpaceError}
+use Rattle.extension.specs.declared.decode.Error.TheVariants.{Mandatory, NotFilled}
+use Rattle.extension.specs.declared.decode.Filled.{Filled}
+use Rattle.extension.specs.declared.iter.Body.{Body}
 
 -- an extension is optional when its signature's first byte lies in 65 to 90, and else mandatory
 abbrev pub optional : ℕ → Bool
@@ -32,12 +33,12 @@ abbrev pub marks : ℕ → Bool → Bool
 marks signature sparse = pick (eqb signature sdir) true sparse
 
 -- the last body of the wanted signature after one more extension
-abbrev pub latest : ℕ → ℕ → FileAt → FileAt → Body → Body
-latest wanted signature start stop last = pick (eqb signature wanted) (Lies start stop) last
+abbrev pub latest : ℕ → ℕ → FileAt → FileAt → Option Body → Option Body
+latest wanted signature start stop last = pick (eqb signature wanted) (Some (body_between start stop)) last
 
 -- the bodies that the reader goes into, each the last of its signature: before all extensions, after one more, and after a list of them. A further signature is a further field
 abbrev pub no_bodies : Bodies
-no_bodies = record { tree = Missing }
+no_bodies = record { tree = None }
 
 abbrev pub latest_of : ℕ → FileAt → FileAt → Bodies → Bodies
 latest_of signature start stop last = record { tree = latest TREE signature start stop last.tree }
@@ -51,26 +52,26 @@ sparse_in sparse [] = sparse
 sparse_in sparse (f ∷ fs) = sparse_in (marks f.signature sparse) fs
 
 -- the first fault in file order; where there is none, what is given
-unfoldable pub judged : List Found → Ending → Space → Space
+unfoldable pub judged : List Found → Ending → Result Filled SpaceError → Result Filled SpaceError
 judged [] filled good = good
-judged [] (stray place) good = NotFilled (file_at place)
-judged (f ∷ fs) ending good = pick (is_forbidden f) (Mandatory f.signature) (judged fs ending good)
+judged [] (stray place) good = Err (NotFilled (file_at place))
+judged (f ∷ fs) ending good = pick (is_forbidden f) (Err (Mandatory f.signature)) (judged fs ending good)
 
 -- what a run comes to, after a mark and bodies that were met before it
-abbrev pub all_from : Bool → Bodies → Run → Space
-all_from sparse last r = judged r.items r.ending (Filled (sparse_in sparse r.items) (bodies_in last r.items))
+abbrev pub all_from : Bool → Bodies → Run → Result Filled SpaceError
+all_from sparse last r = judged r.items r.ending (Ok (filled_by (sparse_in sparse r.items) (bodies_in last r.items)))
 
 -- the space from `from` up to `end`: the first fault, or the mark and the bodies that the reader goes into
-unfoldable pub all_at : List ℕ → ℕ → ℕ → Space
+unfoldable pub all_at : List ℕ → ℕ → ℕ → Result Filled SpaceError
 all_at s from end = all_from false no_bodies (run_at s from end)
 
 -- 01's number of an answer, 0 where nothing is refused, and what a refusal carries
-abbrev pub number_of : Space → ℕ
-number_of (Filled sparse bodies) = 0
-number_of (NotFilled place) = refusal.not_filled
-number_of (Mandatory signature) = refusal.mandatory
+abbrev pub number_of : Result Filled SpaceError → ℕ
+number_of (Ok f) = 0
+number_of (Err (NotFilled place)) = refusal.not_filled
+number_of (Err (Mandatory signature)) = refusal.mandatory
 
-abbrev pub carried_of : Space → List ℕ
-carried_of (Filled sparse bodies) = []
-carried_of (NotFilled place) = place.0 ∷ []
-carried_of (Mandatory signature) = signature ∷ []
+abbrev pub carried_of : Result Filled SpaceError → List ℕ
+carried_of (Ok f) = []
+carried_of (Err (NotFilled place)) = place.0 ∷ []
+carried_of (Err (Mandatory signature)) = signature ∷ []

@@ -8,3 +8,4 @@ pub mod IndexEntryOffsetTable
 pub mod EndOfIndexEntry
 pub mod Theorems
 pub mod Marked
+pub mod Made

@@ -1,6 +1,6 @@
 -- What holds of a walk: what each answer of a step says, and a run of extensions a step at a time, whatever the fuel. Assumes nothing.
 use Prim.Native.Nat.{ℕ, zero, suc, ◌+◌, ◌-◌, ◌*◌, ◌/◌, ◌%◌, ◌≤◌, ◌<◌}
-use Rattle.std.specs.Prelude.{Bool, List, [], ◌∷◌, ◌≡◌, refl, length, ltb, eqb}
+use Rattle.std.specs.Prelude.{Bool, List, [], ◌∷◌, ◌≡◌, refl, length, ltb, eqb, Err, None, Ok, Option, Result, Some}
 use Rattle.std.proofs.Common.{sym, ap, subst, ◌∙◌, pos_of_ne-zero}
 use native.Mathlib.Omega.{arith}
 use Rattle.laws.specs.Pick.{pick}
@@ -12,10 +12,9 @@ use Rattle.format.specs.Format.{extension_header_size}
 use Rattle.extension.specs.Iter.{cursor, extension_at, step_at, Found, Ending, filled, stray, ended, cons, on_step, run_by, run_at}
 use Rattle.extension.specs.IndexEntryOffsetTable.{version, version_size, pair_size, table_at}
 use Rattle.extension.specs.declared.iter.Cursor.{Cursor}
-use Rattle.extension.specs.declared.index_entry_offset_table.Table.{Table}
-use Rattle.extension.specs.declared.index_entry_offset_table.Table.TheVariants.{Pairs, NoTable}
-use Rattle.extension.specs.declared.iter.Step.{Step}
-use Rattle.extension.specs.declared.iter.Step.TheVariants.{Extension, Done, Broken}
+use Rattle.extension.specs.Made.{broken, extension_between}
+use Rattle.extension.specs.declared.iter.Broken.{Broken}
+use Rattle.extension.specs.declared.iter.Extension.{Extension}
 
 -- ---- what holds of either answer of a test holds of the choice by it
 
@@ -52,10 +51,10 @@ pub record Met (s : List ℕ) (at end signature : ℕ) (start stop : FileAt) (ne
   pub bound : next.end.0 ≡ end
 
 -- what each answer of a step says
-pub data IsStep (s : List ℕ) (at end : ℕ) : Step → Type 0 where
-  is_extension : {signature : ℕ} {start stop : FileAt} {next : Cursor} → Met s at end signature start stop next → IsStep s at end (Extension signature start stop next)
-  is_done : end ≤ length s → at ≡ end → IsStep s at end Done
-  is_broken : (end ≤ length s → at ≡ end → ⊥) → (Fits s at end → ⊥) → IsStep s at end Broken
+pub data IsStep (s : List ℕ) (at end : ℕ) : Result (Option Extension) Broken → Type 0 where
+  is_extension : {signature : ℕ} {start stop : FileAt} {next : Cursor} → Met s at end signature start stop next → IsStep s at end (Ok (Some (extension_between signature start stop next)))
+  is_done : end ≤ length s → at ≡ end → IsStep s at end (Ok None)
+  is_broken : (end ≤ length s → at ≡ end → ⊥) → (Fits s at end → ⊥) → IsStep s at end (Err broken)
 
 pub step? : (s : List ℕ) (at end : ℕ) → IsStep s at end (step_at s at end)
 unfolding step_at
@@ -73,10 +72,10 @@ step? s at end =
         = record { inside = i; forward = omega arith; within = omega arith; long = refl; named = refl; body = refl; place = refl; bound = refl } in
         is_extension f
 
-pub met : (s : List ℕ) (at end : ℕ) {signature : ℕ} {start stop : FileAt} {next : Cursor} → step_at s at end ≡ Extension signature start stop next → Met s at end signature start stop next
+pub met : (s : List ℕ) (at end : ℕ) {signature : ℕ} {start stop : FileAt} {next : Cursor} → step_at s at end ≡ Ok (Some (extension_between signature start stop next)) → Met s at end signature start stop next
 met s at end {signature} {start} {stop} {next} e = by (subst (IsStep s at end) e (step? s at end))
   where
-    by : IsStep s at end (Extension signature start stop next) → Met s at end signature start stop next
+    by : IsStep s at end (Ok (Some (extension_between signature start stop next))) → Met s at end signature start stop next
     by (is_extension f) = f
 
 -- ---- a run, a step at a time
@@ -92,25 +91,25 @@ fuel zero m s at end h k = absurd (omega arith)
 fuel (suc n) zero s at end h k = absurd (omega arith)
 fuel (suc n) (suc m) s at end h k = by (λ p l r. fuel n m s p end l r) (step_at s at end) refl
   where
-    by : ((p : ℕ) → end - p < n → end - p < m → run_by n s p end ≡ run_by m s p end) → (x : Step) → step_at s at end ≡ x
+    by : ((p : ℕ) → end - p < n → end - p < m → run_by n s p end ≡ run_by m s p end) → (x : Result (Option Extension) Broken) → step_at s at end ≡ x
         → on_step x (ended filled) (ended (stray at)) (λ signature start stop. cons (found_at at signature start stop) (run_by n s stop.0 end))
         ≡ on_step x (ended filled) (ended (stray at)) (λ signature start stop. cons (found_at at signature start stop) (run_by m s stop.0 end))
-    by ih Done e = refl
-    by ih Broken e = refl
-    by ih (Extension signature start stop next) e =
-        let f : Met s at end signature start stop next = met s at end e in
-        ap (cons (found_at at signature start stop)) (ih stop.0 (omega (arith, f.forward, f.within)) (omega (arith, f.forward, f.within)))
+    by ih (Ok None) e = refl
+    by ih (Err _) e = refl
+    by ih (Ok (Some e₁)) e =
+        let f : Met s at end e₁.signature e₁.body.start e₁.body.stop e₁.next = met s at end e in
+        ap (cons (found_at at e₁.signature e₁.body.start e₁.body.stop)) (ih e₁.body.stop.0 (omega (arith, f.forward, f.within)) (omega (arith, f.forward, f.within)))
 
 module _ (s : List ℕ) (at end : ℕ) where
-  pub run_done : step_at s at end ≡ Done → run_at s at end ≡ ended filled
+  pub run_done : step_at s at end ≡ Ok None → run_at s at end ≡ ended filled
   unfolding run_at run_by
   run_done e = rw e
 
-  pub run_broken : step_at s at end ≡ Broken → run_at s at end ≡ ended (stray at)
+  pub run_broken : step_at s at end ≡ Err broken → run_at s at end ≡ ended (stray at)
   unfolding run_at run_by
   run_broken e = rw e
 
-  pub run_more : {signature : ℕ} {start stop : FileAt} {next : Cursor} → step_at s at end ≡ Extension signature start stop next
+  pub run_more : {signature : ℕ} {start stop : FileAt} {next : Cursor} → step_at s at end ≡ Ok (Some (extension_between signature start stop next))
       → run_at s at end ≡ cons (found_at at signature start stop) (run_at s stop.0 end)
   unfolding run_at run_by
   run_more {signature} {start} {stop} {next} e =
@@ -128,9 +127,9 @@ pub record Tabled (s : List ℕ) (start stop n : ℕ) : Type 0 where
   pub size : start + version_size + n * pair_size ≡ stop
   pub first : be_at 4 s start ≡ version
 
-pub data IsTable (s : List ℕ) (start stop : ℕ) : Table → Type 0 where
-  is_table : {n : ℕ} → Tabled s start stop n → IsTable s start stop (Pairs n)
-  is_none : IsTable s start stop NoTable
+pub data IsTable (s : List ℕ) (start stop : ℕ) : Option ℕ → Type 0 where
+  is_table : {n : ℕ} → Tabled s start stop n → IsTable s start stop (Some n)
+  is_none : IsTable s start stop None
 
 pub table? : (s : List ℕ) (start stop : ℕ) → IsTable s start stop (table_at s start stop)
 unfolding table_at
@@ -146,15 +145,15 @@ table? s start stop =
     (λ v. is_none))))
   where
     table : stop ≤ length s → start ≤ stop → version_size ≤ stop - start → be_at 4 s start ≡ version → ((stop - start - version_size) / pair_size ≡ 0 → ⊥)
-        → (stop - start - version_size) % pair_size ≡ 0 → IsTable s start stop (Pairs ((stop - start - version_size) / pair_size))
+        → (stop - start - version_size) % pair_size ≡ 0 → IsTable s start stop (Some ((stop - start - version_size) / pair_size))
     table i b l v z o =
         let f : Tabled s start stop ((stop - start - version_size) / pair_size) = record { inside = i; some = omega (arith, pos_of_ne-zero z); size = omega arith; first = v } in
         is_table f
 
-pub tabled : (s : List ℕ) (start stop n : ℕ) → table_at s start stop ≡ Pairs n → Tabled s start stop n
+pub tabled : (s : List ℕ) (start stop n : ℕ) → table_at s start stop ≡ Some n → Tabled s start stop n
 tabled s start stop n e = by (subst (IsTable s start stop) e (table? s start stop))
   where
-    by : IsTable s start stop (Pairs n) → Tabled s start stop n
+    by : IsTable s start stop (Some n) → Tabled s start stop n
     by (is_table f) = f
 
 -- ---- a run is the chain of extensions from a place on, and only that
@@ -188,7 +187,7 @@ unfolding run_by
 run_by_chain zero s at end h = absurd (omega arith)
 run_by_chain (suc n) s at end h = by (λ p l. run_by_chain n s p end l) (step? s at end)
   where
-    by : ((p : ℕ) → end - p < n → Chain s end p (run_by n s p end).items (run_by n s p end).ending) → {x : Step} → IsStep s at end x
+    by : ((p : ℕ) → end - p < n → Chain s end p (run_by n s p end).items (run_by n s p end).ending) → {x : Result (Option Extension) Broken} → IsStep s at end x
         → Chain s end at (on_step x (ended filled) (ended (stray at)) (λ signature start stop. cons (found_at at signature start stop) (run_by n s stop.0 end))).items
         (on_step x (ended filled) (ended (stray at)) (λ signature start stop. cons (found_at at signature start stop) (run_by n s stop.0 end))).ending
     by ih (is_done i e) = chain_filled i e
@@ -204,23 +203,23 @@ run_chain s at end = run_by_chain (suc (end - at)) s at end (omega arith)
 step_fits : (s : List ℕ) (at end : ℕ) → Fits s at end → step_at s at end ≡ extension_at at end (be_at 4 s at) (be_at 4 s (at + 4))
 step_fits s at end f = by (step? s at end)
   where
-    by : {x : Step} → IsStep s at end x → x ≡ extension_at at end (be_at 4 s at) (be_at 4 s (at + 4))
+    by : {x : Result (Option Extension) Broken} → IsStep s at end x → x ≡ extension_at at end (be_at 4 s at) (be_at 4 s (at + 4))
     by (is_done i e) = absurd (omega (arith, f.whole))
     by (is_broken d g) = absurd (g f)
-    by (is_extension m) = λ k. Extension (m.named k) (file_at (m.body k)) (file_at (m.long k)) (cursor ((m.place ∙ m.long) k) (m.bound k))
+    by (is_extension m) = λ k. Ok (Some (extension_between (m.named k) (file_at (m.body k)) (file_at (m.long k)) (cursor ((m.place ∙ m.long) k) (m.bound k))))
 
-step_filled : (s : List ℕ) (at end : ℕ) → end ≤ length s → at ≡ end → step_at s at end ≡ Done
+step_filled : (s : List ℕ) (at end : ℕ) → end ≤ length s → at ≡ end → step_at s at end ≡ Ok None
 step_filled s at end i e = by (step? s at end)
   where
-    by : {x : Step} → IsStep s at end x → x ≡ Done
+    by : {x : Result (Option Extension) Broken} → IsStep s at end x → x ≡ Ok None
     by (is_done j q) = refl
     by (is_broken d g) = absurd (d i e)
     by (is_extension m) = absurd (omega (arith, m.forward, m.within))
 
-step_stray : (s : List ℕ) (at end : ℕ) → (end ≤ length s → at ≡ end → ⊥) → (Fits s at end → ⊥) → step_at s at end ≡ Broken
+step_stray : (s : List ℕ) (at end : ℕ) → (end ≤ length s → at ≡ end → ⊥) → (Fits s at end → ⊥) → step_at s at end ≡ Err broken
 step_stray s at end d f = by (step? s at end)
   where
-    by : {x : Step} → IsStep s at end x → x ≡ Broken
+    by : {x : Result (Option Extension) Broken} → IsStep s at end x → x ≡ Err broken
     by (is_done i e) = absurd (d i e)
     by (is_broken e g) = refl
     by (is_extension m) = absurd (f (record { inside = m.inside; whole = omega (arith, m.within, m.long) }))

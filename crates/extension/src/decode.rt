@@ -2,21 +2,27 @@
 ghost use Rattle.std.specs.Prelude.{◌≡◌};
 ghost use Rattle.extension.specs.Decode.{mandatory, forbidden, marks, latest, latest_of, all_at};
 
-use crate::iter::{Body, Cursor, Step};
+use crate::iter::{Body, Cursor};
 use crate::{FIRST_BYTE, SDIR, TREE};
 use wire::FileAt;
 
 // The bodies that the reader goes into: for each such signature the last extension that has it.
-#[derive(Drop)]
+#[derive(Clone, Copy)]
 pub struct Bodies {
-    pub tree: Body,
+    pub tree: Option<Body>,
 }
 
-// What the space behind the entries comes to: whether the index is marked sparse, and the bodies that the reader goes into; or the place where no extension stands
-// although the space is not used up; or the signature of an extension that must be understood and is not.
-#[derive(Drop)]
-pub enum Space {
-    Filled { sparse: bool, bodies: Bodies },
+// A space that extensions fill: whether they mark the index sparse, and the bodies that the reader goes into.
+#[derive(Clone, Copy)]
+pub struct Filled {
+    pub sparse: bool,
+    pub bodies: Bodies,
+}
+
+// Why the space behind the entries is refused: the place where no extension stands although the space is not used up, or the signature of an extension that must be
+// understood and is not.
+#[derive(Clone, Copy)]
+pub enum Error {
     NotFilled(FileAt),
     Mandatory(u32),
 }
@@ -25,85 +31,66 @@ pub enum Space {
 fn is_mandatory(first: u8) -> bool
     ensures { result ≡ mandatory first }
 {
-    match first {
-        b'A'..=b'Z' => false,
-        _ => true,
-    }
+    !matches!(first, b'A'..=b'Z')
 }
 
 // Whether an extension is one that the reader must refuse: it must be understood, and is no empty `sdir`.
-fn is_forbidden(signature: u32, start: FileAt, stop: FileAt) -> bool
-    ensures { result ≡ forbidden signature start.0 stop.0 }
+#[tactic(auto, unfolding(crate::specs::Decode::forbidden))]
+fn is_forbidden(signature: u32, body: Body) -> bool
+    ensures { result ≡ forbidden signature body.start.0 body.stop.0 }
 {
-    let first = (signature / FIRST_BYTE) as u8;
-    if is_mandatory(first) {
-        if signature == SDIR {
-            return start.0 < stop.0;
-        }
-        return true;
-    }
-    false
+    is_mandatory((signature / FIRST_BYTE) as u8)
+        && (signature != SDIR || body.start.0 < body.stop.0)
 }
 
 // The mark after one more extension.
 fn mark(signature: u32, sparse: bool) -> bool
     ensures { result ≡ marks signature sparse }
 {
-    if signature == SDIR {
-        return true;
-    }
-    sparse
+    signature == SDIR || sparse
 }
 
 // The last body of the wanted signature after one more extension.
-fn later(wanted: u32, signature: u32, start: FileAt, stop: FileAt, last: Body) -> Body
-    ensures { result ≡ latest wanted signature start stop last }
+fn later(wanted: u32, signature: u32, body: Body, last: Option<Body>) -> Option<Body>
+    ensures { result ≡ latest wanted signature body.start body.stop last }
 {
     if signature == wanted {
-        return Body::Lies { start, stop };
+        Some(body)
+    } else {
+        last
     }
-    last
 }
 
 // The bodies after one more extension.
-fn latest(signature: u32, start: FileAt, stop: FileAt, last: Bodies) -> Bodies
-    ensures { result ≡ latest_of signature start stop last }
+fn latest(signature: u32, body: Body, last: Bodies) -> Bodies
+    ensures { result ≡ latest_of signature body.start body.stop last }
 {
-    let before = last.tree;
-    let tree = later(TREE, signature, start, stop, before);
-    Bodies { tree }
+    Bodies {
+        tree: later(TREE, signature, body, last.tree),
+    }
 }
 
 // Walks the space from `from` up to `end`.
-pub fn all(file: &[u8], from: FileAt, end: FileAt) -> Space
+#[tactic(auto, unfolding(crate::specs::Decode::all_at))]
+pub fn all(file: &[u8], from: FileAt, end: FileAt) -> Result<Filled, Error>
     ensures { result ≡ all_at file.now from.0 end.0 }
 {
     let mut here = Cursor { at: from, end };
     let mut sparse = false;
-    let mut bodies = Bodies {
-        tree: Body::Missing,
-    };
+    let mut bodies = Bodies { tree: None };
+    // a loop, since a space that is filled and one that is not end it in two ways
     loop {
-        let s = here.step(file);
-        match s {
-            Step::Done => return Space::Filled { sparse, bodies },
-            Step::Broken => {
-                let place = here.at;
-                return Space::NotFilled(place);
-            }
-            Step::Extension {
-                signature,
-                start,
-                stop,
-                next,
-            } => {
-                if is_forbidden(signature, start, stop) {
-                    return Space::Mandatory(signature);
-                }
-                sparse = mark(signature, sparse);
-                bodies = latest(signature, start, stop, bodies);
-                here = next;
-            }
+        let Ok(step) = here.step(file) else {
+            return Err(Error::NotFilled(here.at));
+        };
+        let Some(found) = step else {
+            return Ok(Filled { sparse, bodies });
+        };
+        if is_forbidden(found.signature, found.body) {
+            return Err(Error::Mandatory(found.signature));
         }
+        sparse = mark(found.signature, sparse);
+        bodies = latest(found.signature, found.body, bodies);
+        here = found.next;
     }
 }

@@ -14,106 +14,80 @@ const VERSION_SIZE: usize = 4;
 
 const PAIR_SIZE: usize = 8;
 
-// How many pairs a table has; none has no pair.
-#[derive(Drop)]
-pub enum Table {
-    Pairs(usize),
-    NoTable,
-}
-
 // A pair: where a block of entries begins, and how many it has.
-#[derive(Drop)]
-pub enum Offset {
-    Pair {
-        from_beginning_of_file: u32,
-        num_entries: u32,
-    },
-    NoPair,
+#[derive(Clone, Copy)]
+pub struct Offset {
+    pub from_beginning_of_file: u32,
+    pub num_entries: u32,
 }
 
-// The table that lies from `start` up to `stop`.
-pub fn decode(file: &[u8], start: FileAt, stop: FileAt) -> Table
+// How many pairs the table has that lies from `start` up to `stop`, if that is one; none has no pair. The ends are two, here and in `pair_at`, as the definition
+// `table_at` takes them.
+#[tactic(auto, unfolding(crate::specs::IndexEntryOffsetTable::table_at))]
+pub fn decode(file: &[u8], start: FileAt, stop: FileAt) -> Option<usize>
     ensures { result ≡ table_at file.now start.0 stop.0 }
 {
     let at = start.0;
     let end = stop.0;
-    if file.len() < end {
-        return Table::NoTable;
-    }
-    if end < at {
-        return Table::NoTable;
+    if file.len() < end || end < at {
+        return None;
     }
     let size = end - at;
-    if size < VERSION_SIZE {
-        return Table::NoTable;
-    }
-    let version = wire::be32(file, at);
-    if version != VERSION {
-        return Table::NoTable;
+    if size < VERSION_SIZE || wire::be32(file, at) != VERSION {
+        return None;
     }
     let rest = size - VERSION_SIZE;
-    if rest / PAIR_SIZE == 0 {
-        return Table::NoTable;
+    if rest / PAIR_SIZE == 0 || rest % PAIR_SIZE != 0 {
+        return None;
     }
-    if rest % PAIR_SIZE != 0 {
-        return Table::NoTable;
-    }
-    Table::Pairs(rest / PAIR_SIZE)
+    Some(rest / PAIR_SIZE)
 }
 
 // Where the first IEOT's body lies among the extensions from an offset on, in front of the trailer.
-fn body(file: &[u8], offset: FileAt) -> Body
+#[tactic(auto, unfolding(crate::specs::IndexEntryOffsetTable::table_in))]
+fn body(file: &[u8], offset: FileAt) -> Option<Body>
     ensures { result ≡ table_in id_size file.now offset.0 }
 {
-    let from = offset.0;
     if file.len() < format::ID_SIZE {
-        return Body::Missing;
+        return None;
     }
     let end = file.len() - format::ID_SIZE;
-    if end < from {
-        return Body::Missing;
+    if end < offset.0 {
+        return None;
     }
     crate::iter::first_of(file, offset, FileAt(end), IEOT)
 }
 
 // How many pairs the first IEOT has, in a file whose extensions begin at an offset.
-pub fn find(file: &[u8], offset: FileAt) -> Table
+#[tactic(auto, unfolding(crate::specs::IndexEntryOffsetTable::table_from))]
+pub fn find(file: &[u8], offset: FileAt) -> Option<usize>
     ensures { result ≡ table_from id_size file.now offset.0 }
 {
-    let b = body(file, offset);
-    match b {
-        Body::Missing => Table::NoTable,
-        Body::Lies { start, stop } => decode(file, start, stop),
-    }
+    let Body { start, stop } = body(file, offset)?;
+    decode(file, start, stop)
 }
 
 // Pair number k of the table that lies from `start` up to `stop`.
-pub fn pair_at(file: &[u8], start: FileAt, stop: FileAt, k: usize) -> Offset
+#[tactic(auto, using(crate::proofs::Laws::pair_inside), unfolding(crate::specs::IndexEntryOffsetTable::pair_in))]
+pub fn pair_at(file: &[u8], start: FileAt, stop: FileAt, k: usize) -> Option<Offset>
     ensures { result ≡ pair_in file.now start.0 stop.0 k }
 {
-    let t = decode(file, start, stop);
-    match t {
-        Table::NoTable => Offset::NoPair,
-        Table::Pairs(n) => {
-            if n <= k {
-                return Offset::NoPair;
-            }
-            let at = start.0 + VERSION_SIZE + k * PAIR_SIZE;
-            Offset::Pair {
-                from_beginning_of_file: wire::be32(file, at),
-                num_entries: wire::be32(file, at + 4),
-            }
-        }
+    let n = decode(file, start, stop)?;
+    if n <= k {
+        return None;
     }
+    let at = start.0 + VERSION_SIZE + k * PAIR_SIZE;
+    Some(Offset {
+        from_beginning_of_file: wire::be32(file, at),
+        num_entries: wire::be32(file, at + 4),
+    })
 }
 
 // Pair number k of the first IEOT, in a file whose extensions begin at an offset.
-pub fn pair(file: &[u8], offset: FileAt, k: usize) -> Offset
+#[tactic(auto, unfolding(crate::specs::IndexEntryOffsetTable::pair_from))]
+pub fn pair(file: &[u8], offset: FileAt, k: usize) -> Option<Offset>
     ensures { result ≡ pair_from id_size file.now offset.0 k }
 {
-    let b = body(file, offset);
-    match b {
-        Body::Missing => Offset::NoPair,
-        Body::Lies { start, stop } => pair_at(file, start, stop, k),
-    }
+    let Body { start, stop } = body(file, offset)?;
+    pair_at(file, start, stop, k)
 }

@@ -11,88 +11,72 @@ pub struct Cursor {
     pub end: FileAt,
 }
 
-// What stands at a cursor: an extension, whose body lies from `start` up to `stop`; nothing more, since the end is reached; or bytes that are no extension.
-#[derive(Drop)]
-pub enum Step {
-    Extension {
-        signature: u32,
-        start: FileAt,
-        stop: FileAt,
-        next: Cursor,
-    },
-    Done,
-    Broken,
+// Where the body of an extension lies.
+#[derive(Clone, Copy)]
+pub struct Body {
+    pub start: FileAt,
+    pub stop: FileAt,
 }
 
-// Where the body of an extension lies, if there is one.
-#[derive(Drop)]
-pub enum Body {
-    Lies { start: FileAt, stop: FileAt },
-    Missing,
+// An extension, and the cursor behind it.
+#[derive(Clone, Copy)]
+pub struct Extension {
+    pub signature: u32,
+    pub body: Body,
+    pub next: Cursor,
 }
+
+// The bytes at a cursor are no extension.
+#[derive(Clone, Copy)]
+pub struct Broken;
 
 impl Cursor {
-    // What stands here. A cursor whose end lies beyond the file, or before its own place, stands at no extension.
-    pub fn step(self, file: &[u8]) -> Step
+    // The extension that stands here, or none where the end is reached. A cursor whose end lies beyond the file, or before its own place, stands at no extension.
+    #[tactic(auto, unfolding(crate::specs::Iter::step_at))]
+    pub fn step(self, file: &[u8]) -> Result<Option<Extension>, Broken>
         ensures { result ≡ step_at file.now self.at.0 self.end.0 }
     {
-        let place = self.at;
-        let last = self.end;
-        let at = place.0;
-        let end = last.0;
-        if file.len() < end {
-            return Step::Broken;
-        }
-        if end < at {
-            return Step::Broken;
+        let at = self.at.0;
+        let end = self.end.0;
+        if file.len() < end || end < at {
+            return Err(Broken);
         }
         if at == end {
-            return Step::Done;
+            return Ok(None);
         }
         let room = end - at;
         if room < format::EXTENSION_HEADER_SIZE {
-            return Step::Broken;
+            return Err(Broken);
         }
-        let signature = wire::be32(file, at);
         let size = wire::be32(file, at + 4) as usize;
         if room - format::EXTENSION_HEADER_SIZE < size {
-            return Step::Broken;
+            return Err(Broken);
         }
         let start = at + format::EXTENSION_HEADER_SIZE;
         let stop = FileAt(start + size);
-        Step::Extension {
-            signature,
-            start: FileAt(start),
-            stop,
-            next: Cursor {
-                at: stop,
-                end: last,
+        Ok(Some(Extension {
+            signature: wire::be32(file, at),
+            body: Body {
+                start: FileAt(start),
+                stop,
             },
-        }
+            next: Cursor { at: stop, ..self },
+        }))
     }
 }
 
 // The body of the first extension of a signature, as far as extensions are found.
-pub fn first_of(file: &[u8], from: FileAt, end: FileAt, wanted: u32) -> Body
+#[tactic(auto, using(crate::proofs::Laws::firsts))]
+pub fn first_of(file: &[u8], from: FileAt, end: FileAt, wanted: u32) -> Option<Body>
     ensures { result ≡ first_at file.now from.0 end.0 wanted }
 {
     let mut here = Cursor { at: from, end };
-    loop {
-        let s = here.step(file);
-        match s {
-            Step::Done => return Body::Missing,
-            Step::Broken => return Body::Missing,
-            Step::Extension {
-                signature,
-                start,
-                stop,
-                next,
-            } => {
-                if signature == wanted {
-                    return Body::Lies { start, stop };
-                }
-                here = next;
-            }
+    // steps of a cursor: how many there are is not known
+    while let Ok(Some(found)) = here.step(file) {
+        if found.signature == wanted {
+            return Some(found.body);
         }
+        here = found.next;
     }
+    None
 }

@@ -4,174 +4,134 @@
 
 #![tactic(auto)]
 
-ghost use Rattle.std.specs.Prelude.{◌≤◌, ◌≡◌, length};
+ghost use Rattle.std.specs.Prelude.{length};
+ghost use Rattle.std.specs.Iterator.{at_most};
 
-use extension::end_of_index_entry::Told;
-use extension::index_entry_offset_table::{Offset, Table};
+use extension::index_entry_offset_table::Offset;
+use extension::{end_of_index_entry, index_entry_offset_table};
+use std::alloc::{AllocError, Global};
+use std::io::Result;
 use wire::FileAt;
 
-// The descriptors of standard input and output.
-const STDIN_FILENO: i32 = 0;
+// The most that is read of the list, and of the bytes of a line.
+const LIST_ROOM: usize = 262144;
 
-const STDOUT_FILENO: i32 = 1;
+const LINE_ROOM: usize = 4096;
 
-// Room for the whole list.
-fn room() -> [u8; 262144]
-    ensures { 262144 ≡ length result }
-{
-    [0; 262144]
-}
-
-// The value of a hexadecimal digit.
+// The value of a hexadecimal digit; any other character has a value too.
 fn digit(c: u8) -> u8 {
-    if c < b'a' {
-        c % 16
-    } else {
-        (c - b'a') % 6 + 10
+    match c {
+        b'a'.. => (c - b'a') % 6 + 10,
+        _ => c % 16,
     }
 }
 
-// The byte that two digits spell.
-fn byte(high: u8, low: u8) -> u8 {
-    digit(high) % 16 * 16 + digit(low) % 16
+// The bytes that the digits of a line spell, two for each.
+fn unhex(alloc: Global, digits: &[[u8; 2]]) -> std::result::Result<Vec<u8>, AllocError> {
+    digits
+        .iter()
+        .map(|[high, low]| (digit(*high) << 4) | digit(*low))
+        .collect(alloc)
 }
 
-// How many bytes a line has, and where the next line begins.
+// The lines of a list, each a letter and its pairs of digits, which go to the line's end, or as far as there is room.
 #[derive(Drop)]
-struct Line {
-    size: usize,
-    next: usize,
+struct Lines<'a> {
+    rest: &'a [u8],
 }
 
-// Reads the digits from `at` on up to the line's end.
-fn unhex(text: &[u8], at: usize, bytes: &mut [u8]) -> Line
-    ensures { result.size ≤ length bytes.new }
-{
-    let mut i = at;
-    let mut n: usize = 0;
-    while i < text.len() {
-        if text[i] == b'\n' {
-            return Line { size: n, next: i };
-        }
-        if text.len() - i < 2 {
-            return Line { size: n, next: i };
-        }
-        if bytes.len() <= n {
-            return Line { size: n, next: i };
-        }
-        bytes[n] = byte(text[i], text[i + 1]);
-        n += 1;
-        i += 2;
+impl<'a> Iterator for Lines<'a> {
+    type Item = (u8, &'a [[u8; 2]]);
+
+    ghost remaining = { λ s. at_most (length s.rest.now) };
+
+    fn next(&mut self) -> Option<(u8, &'a [[u8; 2]])> {
+        let (letter, text) = self.rest.split_first()?;
+        let (pairs, _) = text.as_chunks::<2>();
+        let digits = pairs
+            .iter()
+            .take(LINE_ROOM)
+            .take_while(|pair| pair[0] != b'\n')
+            .count();
+        self.rest = text.get(digits * 2 + 1..).unwrap_or(&[]);
+        Some((*letter, pairs.get(..digits).unwrap_or(&[])))
     }
-    Line { size: n, next: i }
-}
-
-fn none() {
-    io::write_all(STDOUT_FILENO, b"none");
 }
 
 // A pair, or a dash where there is none.
-fn show(p: Offset) {
-    match p {
-        Offset::NoPair => {
-            io::write_all(STDOUT_FILENO, b" -");
-        }
-        Offset::Pair {
-            from_beginning_of_file,
-            num_entries,
-        } => {
-            io::write_all(STDOUT_FILENO, b" ");
-            io::print_decimal(STDOUT_FILENO, from_beginning_of_file as u64);
-            io::write_all(STDOUT_FILENO, b",");
-            io::print_decimal(STDOUT_FILENO, num_entries as u64);
+fn show_pair(rt: &impl Print, pair: Option<Offset>) -> Result<()> {
+    match pair {
+        None => print!(rt; " -"),
+        Some(
+            Offset {
+                from_beginning_of_file,
+                num_entries,
+            },
+        ) => print!(rt; " {from_beginning_of_file},{num_entries}"),
+    }
+}
+
+// A table of so many pairs, and behind it what stands beyond its last pair.
+fn show_table<F: Fn(usize) -> Option<Offset> + Drop>(
+    rt: &impl Print,
+    table: Option<usize>,
+    pair_at: F,
+) -> Result<()>
+    requires { F.IsAlwaysCallable pair_at }
+{
+    match table {
+        None => println!(rt; "none"),
+        Some(n) => {
+            print!(rt; "{n}")?;
+            for k in 0..=n {
+                show_pair(rt, pair_at(k))?;
+            }
+            println!(rt)
         }
     }
 }
 
-// The table that is a whole slice, and behind it what stands beyond its last pair.
-fn table(s: &[u8]) {
+// The table that is a whole slice.
+fn show_body(rt: &impl Print, body: &[u8]) -> Result<()> {
     let start = FileAt(0);
-    let stop = FileAt(s.len());
-    let t = extension::index_entry_offset_table::decode(s, start, stop);
-    match t {
-        Table::NoTable => none(),
-        Table::Pairs(n) => {
-            io::print_decimal(STDOUT_FILENO, n as u64);
-            let mut k: usize = 0;
-            while k < n {
-                show(extension::index_entry_offset_table::pair_at(s, start, stop, k));
-                k += 1;
-            }
-            show(extension::index_entry_offset_table::pair_at(s, start, stop, n));
-        }
+    let stop = FileAt(body.len());
+    let table = index_entry_offset_table::decode(body, start, stop);
+    show_table(
+        rt,
+        table,
+        |k| index_entry_offset_table::pair_at(body, start, stop, k),
+    )
+}
+
+// The first table of the extensions from an offset on.
+fn show_found(rt: &impl Print, file: &[u8], from: FileAt) -> Result<()> {
+    let table = index_entry_offset_table::find(file, from);
+    show_table(rt, table, |k| index_entry_offset_table::pair(file, from, k))
+}
+
+fn show_end(rt: &impl Print, file: &[u8]) -> Result<()> {
+    match end_of_index_entry::decode(file) {
+        None => println!(rt; "none"),
+        Some(FileAt(at)) => println!(rt; "{at}"),
     }
 }
 
-// The first table of the extensions from an offset on, and behind it what stands beyond its last pair.
-fn found(s: &[u8], offset: usize) {
-    let from = FileAt(offset);
-    let t = extension::index_entry_offset_table::find(s, from);
-    match t {
-        Table::NoTable => none(),
-        Table::Pairs(n) => {
-            io::print_decimal(STDOUT_FILENO, n as u64);
-            let mut k: usize = 0;
-            while k < n {
-                show(extension::index_entry_offset_table::pair(s, from, k));
-                k += 1;
-            }
-            show(extension::index_entry_offset_table::pair(s, from, n));
-        }
+// The answer to a line.
+fn show_answer(rt: &impl Print, letter: u8, bytes: &[u8]) -> Result<()> {
+    match letter {
+        b'i' => show_body(rt, bytes),
+        b'f' => show_found(rt, bytes, FileAt(0)),
+        b'g' => show_found(rt, bytes, FileAt(12)),
+        _ => show_end(rt, bytes),
     }
 }
 
-fn told(s: &[u8]) {
-    let t = extension::end_of_index_entry::decode(s);
-    match t {
-        Told::Nothing => none(),
-        Told::Offset(place) => {
-            let at = place.0;
-            io::print_decimal(STDOUT_FILENO, at as u64);
-        }
+fn main(rt: HostRuntime) -> Result<()> {
+    let list = replay::read_up_to(rt.stdin(), LIST_ROOM, rt.alloc())?;
+    for (letter, digits) in (Lines { rest: &list }) {
+        let bytes = unhex(rt.alloc(), digits)?;
+        // what cannot be printed is left out
+        let _ = show_answer(&rt, letter, &bytes);
     }
-}
-
-// The answer to a line whose bytes are the first `size`.
-fn answer(kind: u8, bytes: &[u8], size: usize) {
-    if bytes.len() < size {
-        return;
-    }
-    let s = &bytes[..size];
-    match kind {
-        b'i' => table(s),
-        b'f' => found(s, 0),
-        b'g' => found(s, 12),
-        _ => told(s),
-    }
-    io::write_all(STDOUT_FILENO, b"\n");
-}
-
-// Each line of the list.
-fn replay(text: &[u8], bytes: &mut [u8]) {
-    let mut at: usize = 0;
-    while at < text.len() {
-        let l = unhex(text, at + 1, bytes);
-        let size = l.size;
-        let next = l.next;
-        answer(text[at], bytes, size);
-        if next <= at {
-            return;
-        }
-        if text.len() <= next {
-            return;
-        }
-        at = next + 1;
-    }
-}
-
-fn main() {
-    let mut text = room();
-    let n = io::read_full(STDIN_FILENO, &mut text);
-    let mut bytes = io::buffer();
-    replay(&text[..n], &mut bytes);
+    Ok(())
 }

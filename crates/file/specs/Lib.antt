@@ -2,3 +2,4 @@
 pub mod Trailer
 pub mod Answer
 pub mod Read
+pub mod Made

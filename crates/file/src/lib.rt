@@ -7,27 +7,29 @@ ghost use Rattle.wire.specs.declared.FileAt.{FileAt};
 ghost use Rattle.format.specs.Format.{depth_limit, id_size};
 ghost use Rattle.kind.specs.Sha1.{sha1_kind};
 ghost use Rattle.file.specs.Trailer.{good_trailer};
-ghost use Rattle.file.specs.Answer.{number_of, carries_of, value_of};
+ghost use Rattle.file.specs.Answer.{number_of, carries_of, value_carried, of_header, of_entries, of_space, of_tree};
 ghost use Rattle.file.specs.Read.{outcome, marked, with_tree, extensions_into, entries_into, read_file};
 
-use decode::entries::{Answer as Ran, Before};
+use decode::entries::Before;
 use decode::header::Header;
-use extension::decode::Space;
-use extension::iter::Body;
-use tree::TreeAnswer;
+use decode::{entries, header};
+use extension::decode::Filled;
 use wire::{FileAt, PathAt};
 
-// What reading a file comes to: what was read, or one refusal of 01's table, with the value that it carries.
+// What was read of a file: its version, whether it is sparse, how many records and path bytes it has, and how many nodes the last TREE has, if there is a tree.
+// The version is a number, as C is told it.
 #[derive(Clone, Copy)]
-pub enum Answer {
-    Read {
-        version: u32,
-        sparse: bool,
-        tree: bool,
-        records: usize,
-        path_bytes: usize,
-        nodes: usize,
-    },
+pub struct Reading {
+    pub version: u32,
+    pub sparse: bool,
+    pub records: usize,
+    pub path_bytes: usize,
+    pub tree: Option<usize>,
+}
+
+// The refusals of 01's table, with the value that each carries.
+#[derive(Clone, Copy)]
+pub enum Error {
     ShortFile,
     NoSignature,
     OtherVersion(u32),
@@ -40,81 +42,104 @@ pub enum Answer {
     NoNodeRoom,
 }
 
+impl From<header::Error> for Error {
+    ghost from_gives = { λ e x. x ≡ of_header e };
+
+    fn from(e: header::Error) -> Error {
+        match e {
+            header::Error::ShortFile => Error::ShortFile,
+            header::Error::NoSignature => Error::NoSignature,
+            header::Error::OtherVersion(version) => Error::OtherVersion(version),
+        }
+    }
+}
+
+impl From<entries::Error> for Error {
+    ghost from_gives = { λ e x. x ≡ of_entries e };
+
+    fn from(e: entries::Error) -> Error {
+        match e {
+            entries::Error::NotSpelled(k) => Error::NotSpelled(k),
+            entries::Error::NoRoom(k) => Error::NoEntryRoom(k),
+        }
+    }
+}
+
+impl From<extension::decode::Error> for Error {
+    ghost from_gives = { λ e x. x ≡ of_space e };
+
+    fn from(e: extension::decode::Error) -> Error {
+        match e {
+            extension::decode::Error::NotFilled(place) => Error::NotFilled(place.0),
+            extension::decode::Error::Mandatory(signature) => Error::Mandatory(signature),
+        }
+    }
+}
+
+impl From<tree::Error> for Error {
+    ghost from_gives = { λ e x. x ≡ of_tree e };
+
+    fn from(e: tree::Error) -> Error {
+        match e {
+            tree::Error::TooDeep => Error::TooDeep,
+            tree::Error::NoRoom => Error::NoNodeRoom,
+        }
+    }
+}
+
 // The number that 01's table gives an answer; 0 where the file was read.
-pub fn number(a: Answer) -> u32
+pub fn number(a: Result<Reading, Error>) -> u32
     ensures { result ≡ number_of a }
 {
     match a {
-        Answer::Read {
-            version: _,
-            sparse: _,
-            tree: _,
-            records: _,
-            path_bytes: _,
-            nodes: _,
-        } => 0,
-        Answer::ShortFile => refusal::SHORT_FILE,
-        Answer::NoSignature => refusal::NO_SIGNATURE,
-        Answer::OtherVersion(_) => refusal::OTHER_VERSION,
-        Answer::BadTrailer => refusal::BAD_TRAILER,
-        Answer::NotSpelled(_) => refusal::NOT_SPELLED,
-        Answer::NoEntryRoom(_) => refusal::NO_ENTRY_ROOM,
-        Answer::NotFilled(_) => refusal::NOT_FILLED,
-        Answer::Mandatory(_) => refusal::MANDATORY,
-        Answer::TooDeep => refusal::TOO_DEEP,
-        Answer::NoNodeRoom => refusal::NO_NODE_ROOM,
+        Ok(_) => 0,
+        Err(Error::ShortFile) => refusal::SHORT_FILE,
+        Err(Error::NoSignature) => refusal::NO_SIGNATURE,
+        Err(Error::OtherVersion(_)) => refusal::OTHER_VERSION,
+        Err(Error::BadTrailer) => refusal::BAD_TRAILER,
+        Err(Error::NotSpelled(_)) => refusal::NOT_SPELLED,
+        Err(Error::NoEntryRoom(_)) => refusal::NO_ENTRY_ROOM,
+        Err(Error::NotFilled(_)) => refusal::NOT_FILLED,
+        Err(Error::Mandatory(_)) => refusal::MANDATORY,
+        Err(Error::TooDeep) => refusal::TOO_DEEP,
+        Err(Error::NoNodeRoom) => refusal::NO_NODE_ROOM,
     }
 }
 
-// Whether an answer carries a value with its number.
-pub fn carries(a: Answer) -> bool
+// Whether an answer carries a value with its number: whether `carried` has one. The theorem `carries_settled` speaks of it.
+pub fn carries(a: Result<Reading, Error>) -> bool
     ensures { result ≡ carries_of a }
 {
-    match a {
-        Answer::OtherVersion(_) => true,
-        Answer::NotSpelled(_) => true,
-        Answer::NoEntryRoom(_) => true,
-        Answer::NotFilled(_) => true,
-        Answer::Mandatory(_) => true,
-        Answer::Read {
-            version: _,
-            sparse: _,
-            tree: _,
-            records: _,
-            path_bytes: _,
-            nodes: _,
-        } => false,
-        Answer::ShortFile => false,
-        Answer::NoSignature => false,
-        Answer::BadTrailer => false,
-        Answer::TooDeep => false,
-        Answer::NoNodeRoom => false,
-    }
+    matches!(
+        a,
+        Err(
+            Error::OtherVersion(_)
+                | Error::NotSpelled(_)
+                | Error::NoEntryRoom(_)
+                | Error::NotFilled(_)
+                | Error::Mandatory(_)
+        )
+    )
 }
 
-// The value that an answer carries; 0 where it carries none.
-pub fn carried(a: Answer) -> u64
-    ensures { result ≡ value_of a }
+// The value that an answer carries with its number, if it carries one.
+pub fn carried(a: Result<Reading, Error>) -> Option<u64>
+    ensures { result ≡ value_carried a }
 {
     match a {
-        Answer::OtherVersion(v) => v as u64,
-        Answer::NotSpelled(k) => k as u64,
-        Answer::NoEntryRoom(k) => k as u64,
-        Answer::NotFilled(p) => p as u64,
-        Answer::Mandatory(s) => s as u64,
-        Answer::Read {
-            version: _,
-            sparse: _,
-            tree: _,
-            records: _,
-            path_bytes: _,
-            nodes: _,
-        } => 0,
-        Answer::ShortFile => 0,
-        Answer::NoSignature => 0,
-        Answer::BadTrailer => 0,
-        Answer::TooDeep => 0,
-        Answer::NoNodeRoom => 0,
+        Err(Error::OtherVersion(v)) => Some(v as u64),
+        Err(Error::NotSpelled(k)) => Some(k as u64),
+        Err(Error::NoEntryRoom(k)) => Some(k as u64),
+        Err(Error::NotFilled(p)) => Some(p as u64),
+        Err(Error::Mandatory(s)) => Some(s as u64),
+        Err(
+            Error::ShortFile
+            | Error::NoSignature
+            | Error::BadTrailer
+            | Error::TooDeep
+            | Error::NoNodeRoom,
+        )
+        | Ok(_) => None,
     }
 }
 
@@ -146,70 +171,46 @@ fn marked_by(e: Entries, mark: bool) -> Entries
     ensures { result ≡ marked e mark }
 {
     if mark {
-        return Entries {
-            version: e.version,
-            sparse: true,
-            records: e.records,
-            used: e.used,
-        };
+        return Entries { sparse: true, ..e };
     }
     e
 }
 
 // The answer, by what the last TREE came to; where there is none it is as with a malformed one.
-fn with_tree(e: Entries, t: TreeAnswer) -> Answer
+fn with_tree(e: Entries, t: Result<Option<usize>, tree::Error>) -> Result<Reading, Error>
     ensures { result ≡ with_tree e t }
 {
-    match t {
-        TreeAnswer::Tree(nodes) => Answer::Read {
-            version: e.version,
-            sparse: e.sparse,
-            tree: true,
-            records: e.records,
-            path_bytes: e.used,
-            nodes,
-        },
-        TreeAnswer::Malformed => Answer::Read {
-            version: e.version,
-            sparse: e.sparse,
-            tree: false,
-            records: e.records,
-            path_bytes: e.used,
-            nodes: 0,
-        },
-        TreeAnswer::TooDeep => Answer::TooDeep,
-        TreeAnswer::NoRoom => Answer::NoNodeRoom,
-    }
+    let tree = t?;
+    Ok(Reading {
+        version: e.version,
+        sparse: e.sparse,
+        records: e.records,
+        path_bytes: e.used,
+        tree,
+    })
 }
 
 // The extensions from `next` on, which fill the space before `end`, and the last TREE's nodes.
-fn read_extensions(file: &[u8], next: FileAt, end: FileAt, e: Entries, nodes: &mut [u8]) -> Answer
+#[tactic(auto, unfolding(crate::specs::Read::extensions_into))]
+fn read_extensions(
+    file: &[u8],
+    next: FileAt,
+    end: FileAt,
+    e: Entries,
+    nodes: &mut [u8],
+) -> Result<Reading, Error>
     ensures { (result, nodes.new) ≡ extensions_into id_size depth_limit file.now next.0 end.0 e nodes.old }
 {
-    let w = extension::decode::all(file, next, end);
-    match w {
-        Space::NotFilled(place) => Answer::NotFilled(place.0),
-        Space::Mandatory(signature) => Answer::Mandatory(signature),
-        Space::Filled {
-            sparse: mark,
-            bodies,
-        } => {
-            let all = marked_by(e, mark);
-            let body = bodies.tree;
-            match body {
-                Body::Missing => with_tree(all, TreeAnswer::Malformed),
-                Body::Lies { start, stop } => {
-                    let from = start.0;
-                    let to = stop.0;
-                    let t = tree::read_tree(file, from, to, nodes);
-                    with_tree(all, t)
-                }
-            }
-        }
+    let Filled { sparse, bodies } = extension::decode::all(file, next, end)?;
+    let all = marked_by(e, sparse);
+    match bodies.tree {
+        None => with_tree(all, Ok(None)),
+        Some(body) => with_tree(all, tree::read_tree(file, body.start.0, body.stop.0, nodes)),
     }
 }
 
 // The entries behind the header, and all that follows them.
+#[tactic(auto, unfolding(crate::specs::Read::entries_into))]
 fn read_entries(
     file: &[u8],
     version: u32,
@@ -217,7 +218,7 @@ fn read_entries(
     records: &mut [u8],
     paths: &mut [u8],
     nodes: &mut [u8],
-) -> Answer
+) -> Result<Reading, Error>
     requires { id_size ≤ length file.now }
     ensures { outcome result records.new paths.new nodes.new
         ≡ entries_into id_size depth_limit file.now version count records.old paths.old nodes.old }
@@ -226,44 +227,33 @@ fn read_entries(
     let from = FileAt(format::HEADER_SIZE);
     let before = Before {
         used: PathAt(0),
-        first: true,
-        length: 0,
+        path: None,
     };
-    let a = decode::entries::read_entries(
-        file, from, end, version, count, 0, before, records, paths,
-    );
-    match a {
-        Ran::NotSpelled(k) => Answer::NotSpelled(k),
-        Ran::NoRoom(k) => Answer::NoEntryRoom(k),
-        Ran::Done { next, used, sparse } => {
-            let e = Entries {
-                version,
-                sparse,
-                records: count,
-                used: used.0,
-            };
-            read_extensions(file, next, end, e, nodes)
-        }
-    }
+    let run = entries::read_entries(file, from, end, version, count, 0, before, records, paths)?;
+    let e = Entries {
+        version,
+        sparse: run.sparse,
+        records: count,
+        used: run.used.0,
+    };
+    read_extensions(file, run.next, end, e, nodes)
 }
 
 // Reads an index file into three lent stores: records, their paths one behind the other, and the nodes of the last TREE. Refusals 1 to 4 touch nothing; 5 and 6 leave
 // the entries before the one they name; 7 and 8 leave all entries; 9 and 10 leave all entries and a node store of zeros.
-pub fn read(file: &[u8], records: &mut [u8], paths: &mut [u8], nodes: &mut [u8]) -> Answer
+#[tactic(auto, unfolding(crate::specs::Read::read_file))]
+pub fn read(
+    file: &[u8],
+    records: &mut [u8],
+    paths: &mut [u8],
+    nodes: &mut [u8],
+) -> Result<Reading, Error>
     ensures { outcome result records.new paths.new nodes.new
         ≡ read_file sha1_kind depth_limit file.now records.old paths.old nodes.old }
 {
-    let h = decode::header::decode(file);
-    match h {
-        Header::ShortFile => Answer::ShortFile,
-        Header::NoSignature => Answer::NoSignature,
-        Header::OtherVersion(version) => Answer::OtherVersion(version),
-        Header::Opens { version, entries } => {
-            if good_trailer(file) {
-                let a = read_entries(file, version, entries as usize, records, paths, nodes);
-                return a;
-            }
-            Answer::BadTrailer
-        }
+    let Header { version, entries } = header::decode(file)?;
+    if !good_trailer(file) {
+        return Err(Error::BadTrailer);
     }
+    read_entries(file, version, entries as usize, records, paths, nodes)
 }

@@ -8,4 +8,5 @@ pub mod Put
 pub mod Read
 pub mod Times
 pub mod Fill
+pub mod Same
 pub mod Order

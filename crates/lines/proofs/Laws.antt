@@ -1,8 +1,8 @@
 -- Laws of a line's bytes, of the lines of a table and of a refusal's line, turned the way that the needs ask. Assumes nothing.
 use mathlib.Core.Path.{◌≡◌, refl, sym, ap, ◌∙◌}
-use mathlib.Core.Bool.{Bool, true, false}
 use mathlib.Core.List.{List, [], ◌∷◌, ◌++◌}
 use mathlib.Core.Logic.{⊎_elim}
+use Rattle.std.specs.Prelude.{Option, Some, None}
 use Prim.Native.Nat.{ℕ, zero, suc, ◌+◌, ◌-◌, ◌*◌, ◌/◌, ◌%◌, ◌^◌, ◌≤◌, ◌<◌}
 use native.Mathlib.Nat.{sub-zero, pow-suc}
 use native.Mathlib.Omega.{arith}
@@ -18,16 +18,22 @@ use Rattle.show.specs.Hex.{hex, length-hex}
 use Rattle.entry.specs.Paths.{Paths}
 use Rattle.entry.specs.Record.{mode_at, id_at, stage_at, path_at}
 use Rattle.entry.specs.Laws.{id_is, id_out}
-use Rattle.lines.specs.Lines.{octal, head_of, line_of, line_at, lines_from, refused_word, tail_of, refused_text}
-use Rattle.sums.specs.Cap.{largest, cap, cap_fits, cap_cap, cap_small}
+use Rattle.lines.specs.Lines.{octal, head_of, line_of, line_at, lines_from, refused_word, tail_of, refused_text, tail_with, refused_with}
+use Rattle.sums.specs.Cap.{largest, cap, cap_fits, cap_cap, cap_small, min_cap}
 use Rattle.lines.specs.Written.{copied, text_short, text_fits, text_written}
 
 -- ---- a line
 
-pub octal_six : (m a b c d e f g : ℕ) → a ≡ 48 + m / 8 / 8 / 8 / 8 / 8 % 8 → b ≡ 48 + m / 8 / 8 / 8 / 8 % 8 → c ≡ 48 + m / 8 / 8 / 8 % 8 → d ≡ 48 + m / 8 / 8 % 8 → e ≡ 48 + m / 8 % 8 → f ≡ 48 + m % 8
+pub octal_six : (m a b c d e f g : ℕ) → a ≡ 48 + m / 32768 % 8 → b ≡ 48 + m / 4096 % 8 → c ≡ 48 + m / 512 % 8 → d ≡ 48 + m / 64 % 8 → e ≡ 48 + m / 8 % 8 → f ≡ 48 + m / 1 % 8
     → a ∷ b ∷ c ∷ d ∷ e ∷ f ∷ g ∷ [] ≡ octal 6 m ++ (g ∷ [])
 unfolding octal
-octal_six m a b c d e f g p q r s t u = cc
+octal_six m a b c d e f g p q r s t u =
+    let p₁ : a ≡ 48 + m / 8 / 8 / 8 / 8 / 8 % 8 = omega arith in
+    let q₁ : b ≡ 48 + m / 8 / 8 / 8 / 8 % 8 = omega arith in
+    let r₁ : c ≡ 48 + m / 8 / 8 / 8 % 8 = omega arith in
+    let s₁ : d ≡ 48 + m / 8 / 8 % 8 = omega arith in
+    let u₁ : f ≡ 48 + m % 8 = omega arith in
+    cc
 
 length-head : (m : ℕ) (id : List ℕ) (stage : ℕ) → length (head_of m id stage) ≡ 10 + length id * 2
 unfolding head_of octal
@@ -166,18 +172,24 @@ digits_below (suc k) x h =
     let small : x / 10 < 10 ^ suc k = omega arith in
     ⊎_elim (λ g. omega (arith, size_one x g)) (λ g. omega (arith, size_more x g, digits_below k (x / 10) small)) (lt_or_ge x 10)
 
-module _ (number value : ℕ) (carries : Bool) where
-  length_refused : length (refused_text number carries value) ≡ 8 + length (digits_of 10 number) + length (tail_of carries value)
-  unfolding refused_text
-  length_refused = length-append (refused_word ++ digits_of 10 number) (tail_of carries value) ∙ omega (arith, length-append refused_word (digits_of 10 number))
+length_refused : (number : ℕ) (o : Option ℕ) → length (refused_with number o) ≡ 8 + length (digits_of 10 number) + length (tail_with o)
+unfolding refused_text
+length_refused number o = length-append (refused_word ++ digits_of 10 number) (tail_with o) ∙ omega (arith, length-append refused_word (digits_of 10 number))
 
-  length_carried : carries ≡ true → length (tail_of carries value) ≡ 2 + length (digits_of 10 value)
-  unfolding tail_of
-  length_carried e = rw e (length-append ((32 ∷ []) ++ digits_of 10 value) (10 ∷ []) ∙ omega (arith, length-append (32 ∷ []) (digits_of 10 value)))
+tail_some : (o : Option ℕ) (value : ℕ) → o ≡ Some value → tail_with o ≡ (32 ∷ []) ++ digits_of 10 value ++ (10 ∷ [])
+unfolding tail_of
+tail_some o value e = ap (λ (v : Option ℕ). tail_with v) e
 
-  length-alone : carries ≡ false → length (tail_of carries value) ≡ 1
-  unfolding tail_of
-  length-alone e = rw e
+tail_none : (o : Option ℕ) → o ≡ None → tail_with o ≡ 10 ∷ []
+unfolding tail_of
+tail_none o e = ap (λ (v : Option ℕ). tail_with v) e
+
+length_some : (o : Option ℕ) (value : ℕ) → o ≡ Some value → length (tail_with o) ≡ 2 + length (digits_of 10 value)
+length_some o value e =
+    ap length (tail_some o value e) ∙ length-append ((32 ∷ []) ++ digits_of 10 value) (10 ∷ []) ∙ omega (arith, length-append (32 ∷ []) (digits_of 10 value))
+
+length_none : (o : Option ℕ) → o ≡ None → length (tail_with o) ≡ 1
+length_none o e = ap length (tail_none o e)
 
 -- a number of 64 bits has at most 20 digits
 digits_short : (x : ℕ) → x ≤ 18446744073709551615 → length (digits_of 10 x) ≤ 20
@@ -186,20 +198,19 @@ digits_short x h = digits_below 19 x (omega arith)
 pub digits_fit : (x digits : ℕ) → digits ≡ length (digits_of 10 x) → x ≤ 18446744073709551615 → digits ≤ 20
 digits_fit x digits e h = omega (arith, digits_short x h)
 
-module _ (number value digits more : ℕ) (carries : Bool) (ed : digits ≡ length (digits_of 10 number)) where
-  pub refused_carried : carries ≡ true → more ≡ length (digits_of 10 value) → 10 + digits + more ≡ length (refused_text number carries value)
-  refused_carried c em = omega (arith, length_refused number value carries, length_carried number value carries c)
+module _ (number digits : ℕ) (o : Option ℕ) (ed : digits ≡ length (digits_of 10 number)) where
+  pub refused_some : (value more : ℕ) → o ≡ Some value → more ≡ length (digits_of 10 value) → 8 + digits + 1 + 1 + more ≡ length (refused_with number o)
+  refused_some value more e em = omega (arith, length_refused number o, length_some o value e)
 
-  pub refused_alone : carries ≡ false → 9 + digits ≡ length (refused_text number carries value)
-  refused_alone c = omega (arith, length_refused number value carries, length-alone number value carries c)
+  pub refused_none : o ≡ None → 8 + digits + 1 ≡ length (refused_with number o)
+  refused_none e = omega (arith, length_refused number o, length_none o e)
 
-module _ (value : ℕ) (carries : Bool) (d : List ℕ) (to : ℕ) (room : to + length (tail_of carries value) ≤ length d) where
-  module _ (e : carries ≡ true) where
+module _ (o : Option ℕ) (d : List ℕ) (to : ℕ) (room : to + length (tail_with o) ≤ length d) where
+  module _ (value : ℕ) (e : o ≡ Some value) where
     pub tail_room : to + 2 + length (digits_of 10 value) ≤ length d
-    tail_room = omega (arith, length_carried 0 value carries e)
+    tail_room = omega (arith, length_some o value e)
 
-    pub tail_carried : (d₁ : List ℕ) (end : ℕ) → d₁ ≡ put (set d to 32) (to + 1) (digits_of 10 value) → end ≡ to + 1 + length (digits_of 10 value) → set d₁ end 10 ≡ put d to (tail_of carries value)
-    unfolding tail_of
+    pub tail_carried : (d₁ : List ℕ) (end : ℕ) → d₁ ≡ put (set d to 32) (to + 1) (digits_of 10 value) → end ≡ to + 1 + length (digits_of 10 value) → set d₁ end 10 ≡ put d to (tail_with o)
     tail_carried d₁ end e₁ ee =
         let ds : List ℕ = digits_of 10 value in
         let mark : List ℕ = 32 ∷ [] in
@@ -210,36 +221,35 @@ module _ (value : ℕ) (carries : Bool) (d : List ℕ) (to : ℕ) (room : to + l
         (λ k. set (i₁ k) (q k) 10)
         ∙ set-put (put d to (mark ++ ds)) (to + length (mark ++ ds)) 10 (omega (arith, tail_room))
         ∙ put_put d (mark ++ ds) (10 ∷ []) to (omega (arith, tail_room))
-        ∙ rw e
+        ∙ ap (λ (l : List ℕ). put d to l) (sym (tail_some o value e))
 
-  module _ (e : carries ≡ false) where
+  module _ (e : o ≡ None) where
     pub tail_slot : to < length d
-    tail_slot = omega (arith, length-alone 0 value carries e)
+    tail_slot = omega (arith, length_none o e)
 
-    pub tail_alone : set d to 10 ≡ put d to (tail_of carries value)
-    unfolding tail_of
-    tail_alone = set-put d to 10 tail_slot ∙ rw e
+    pub tail_alone : set d to 10 ≡ put d to (tail_with o)
+    tail_alone = set-put d to 10 tail_slot ∙ ap (λ (l : List ℕ). put d to l) (sym (tail_none o e))
 
-module _ (number value : ℕ) (carries : Bool) (d : List ℕ) (room : length (refused_text number carries value) ≤ length d) where
+module _ (number : ℕ) (o : Option ℕ) (d : List ℕ) (room : length (refused_with number o) ≤ length d) where
   pub refused_word_lem : 8 ≤ length d
-  refused_word_lem = omega (arith, length_refused number value carries)
+  refused_word_lem = omega (arith, length_refused number o)
 
   pub refused_number : (m : ℕ) → m ≡ length d → 8 + length (digits_of 10 number) ≤ m
-  refused_number m e = omega (arith, length_refused number value carries)
+  refused_number m e = omega (arith, length_refused number o)
 
-  pub refused_tail : (m next : ℕ) → m ≡ length d → next ≡ 8 + length (digits_of 10 number) → next + length (tail_of carries value) ≤ m
-  refused_tail m next e en = omega (arith, length_refused number value carries)
+  pub refused_tail : (m next : ℕ) → m ≡ length d → next ≡ 8 + length (digits_of 10 number) → next + length (tail_with o) ≤ m
+  refused_tail m next em en = omega (arith, length_refused number o)
 
-  pub refused_put : (d₁ d₂ d₃ : List ℕ) (next : ℕ) → d₁ ≡ paste d 0 (drop 0 refused_word) 8 → d₂ ≡ put d₁ 8 (digits_of 10 number) → next ≡ 8 + length (digits_of 10 number) → d₃ ≡ put d₂ next (tail_of carries value)
-      → d₃ ≡ put d 0 (refused_text number carries value)
+  pub refused_put : (d₁ d₂ d₃ : List ℕ) (next : ℕ) → d₁ ≡ paste d 0 (drop 0 refused_word) 8 → d₂ ≡ put d₁ 8 (digits_of 10 number) → next ≡ 8 + length (digits_of 10 number) → d₃ ≡ put d₂ next (tail_with o)
+      → d₃ ≡ put d 0 (refused_with number o)
   unfolding refused_text
   refused_put d₁ d₂ d₃ next e₁ e₂ en e₃ =
       let ds : List ℕ = digits_of 10 number in
       let i₁ : d₁ ≡ put d 0 refused_word = copied d d₁ refused_word 0 8 e₁ refl in
       let i₂ : d₂ ≡ put d 0 (refused_word ++ ds) = e₂ ∙ ap (λ (l : List ℕ). put l 8 ds) i₁ ∙ put_put d refused_word ds 0 (omega arith) in
       let q : next ≡ 0 + length (refused_word ++ ds) = omega (arith, length-append refused_word ds) in
-      e₃ ∙ (λ k. put (i₂ k) (q k) (tail_of carries value)) ∙ put_put d (refused_word ++ ds) (tail_of carries value) 0 (omega arith)
+      e₃ ∙ (λ k. put (i₂ k) (q k) (tail_with o)) ∙ put_put d (refused_word ++ ds) (tail_with o) 0 (omega arith)
 
-pub ruleset laws = (octal_six, head_put, line_head, line_room, line_next, line_put, size_small, size_start, size_end, size_turn, fill_start, fill_fits, fill_room, fill_left, fill_end, fill_more, text_short, text_fits, text_written)
+pub ruleset laws = (octal_six, head_put, line_head, line_room, line_next, line_put, size_small, size_start, size_end, size_turn, fill_start, fill_fits, fill_room, fill_left, fill_end, fill_more, text_short, text_fits, text_written, min_cap)
 
-pub ruleset refused-laws = (refused_carried, refused_alone, tail_room, tail_carried, tail_slot, tail_alone, refused_word_lem, refused_number, refused_tail, refused_put)
+pub ruleset refused-laws = (refused_some, refused_none, tail_room, tail_carried, tail_slot, tail_alone, refused_word_lem, refused_number, refused_tail, refused_put)

@@ -1,5 +1,6 @@
 -- The lines of a listing (01, Marked pages: "Modes are six octal digits; path bytes are printed as they are", and the line of a refusal). Assumes nothing.
-use Rattle.std.specs.Prelude.{ℕ, zero, suc, ◌+◌, ◌/◌, ◌%◌, Bool, List, [], ◌∷◌, ◌++◌}
+use Rattle.std.specs.Prelude.{ℕ, zero, suc, ◌+◌, ◌/◌, ◌%◌, Bool, true, false, ◌≡◌, refl, List, [], ◌∷◌, ◌++◌, Option, is_some, unwrap_or}
+use Rattle.std.specs.Bool.{then_some}
 use Rattle.laws.specs.Pick.{pick}
 use Rattle.wire.specs.Written.{digits_of}
 use Rattle.entry.specs.Paths.{Paths}
@@ -46,3 +47,16 @@ tail_of carries value = pick carries ((space ∷ []) ++ digits_of 10 value ++ (n
 
 unfoldable pub refused_text : ℕ → Bool → ℕ → List ℕ
 refused_text number carries value = refused_word ++ digits_of 10 number ++ tail_of carries value
+
+-- the same of a refusal that carries a value or none
+abbrev pub tail_with : Option ℕ → List ℕ
+tail_with carried = tail_of (is_some carried) (unwrap_or carried 0)
+
+abbrev pub refused_with : ℕ → Option ℕ → List ℕ
+refused_with number carried = refused_text number (is_some carried) (unwrap_or carried 0)
+
+-- which is the same where a flag says whether the value is carried
+pub refused_flag : (number value : ℕ) (carries : Bool) → refused_with number (then_some carries value) ≡ refused_text number carries value
+unfolding refused_text tail_of
+refused_flag number value true = refl
+refused_flag number value false = refl

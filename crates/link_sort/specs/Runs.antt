@@ -5,13 +5,13 @@ use Rattle.laws.specs.Pick.{pick}
 use Rattle.laws.specs.Order.{compared}
 use Rattle.node.specs.Store.{parent_at, name_at, with_parent}
 use Rattle.walk_order.specs.Walk.{kid_above}
-use Rattle.access.specs.declared.order.Order.{Order}
-use Rattle.access.specs.declared.order.Order.TheVariants.{Less, Equal, Greater}
 use Rattle.access.specs.Order.{order_of}
 use Rattle.link_sort.specs.declared.Runs.{Runs}
 use Rattle.link_sort.specs.declared.Strung.{Strung}
 use Rattle.link_sort.specs.declared.Sorted.{Sorted}
 use Rattle.link_sort.specs.declared.Walk.{Walk}
+use Rattle.std.specs.declared.cmp.Ordering.{Ordering}
+use Rattle.std.specs.declared.cmp.Ordering.TheVariants.{Equal, Greater, Less}
 
 -- how often a list can be halved
 abbrev pub levels : ℕ
@@ -23,7 +23,7 @@ opposite up = pick up false true
 -- ---- the merge
 
 -- by name, and where the names are equal by number
-abbrev pub foremost : Order → Bool → Bool
+abbrev pub foremost : Ordering → Bool → Bool
 foremost Less less = true
 foremost Equal less = less
 foremost Greater less = false
@@ -81,7 +81,7 @@ sort_run file (suc d) up first n s = pick (ltb n 2) (lone_of first n s, s) (halv
 -- ---- the walk
 
 -- no where two names are equal
-abbrev pub unless_equal : Order → Bool → Bool
+abbrev pub unless_equal : Ordering → Bool → Bool
 unless_equal Less was = was
 unless_equal Equal was = false
 unless_equal Greater was = was

@@ -2,21 +2,22 @@
 
 #![tactic(auto)]
 
-// The descriptors of standard input and output.
-const STDIN_FILENO: i32 = 0;
+use std::io::Result;
 
-const STDOUT_FILENO: i32 = 1;
+// One byte more than the largest file that is read, so that longer input is seen.
+const MOST_BYTES: usize = 65537;
 
-// Prints the listing of a file. Every listing fits, so that no part of one is ever held back.
-fn print(file: &[u8]) {
-    let mut out = [0u8; list_text::LISTING_ROOM];
-    let size = list_text::list_file(file, &mut out);
-    io::write_all(STDOUT_FILENO, &out[..size]);
+// The listing of a file, put into out. Every listing fits, so that no part of one is ever held back.
+fn listing<'a>(file: &[u8], out: &'a mut [u8; list_text::LISTING_ROOM]) -> &'a [u8] {
+    let size = list_text::list_file(file, out);
+    &out[..size]
 }
 
-fn main() {
-    // one byte more than is read, so that longer input is seen
-    let mut file = [0u8; 65537];
-    let n = io::read_full(STDIN_FILENO, &mut file);
-    print(&file[..n]);
+fn main(rt: HostRuntime) -> Result<()> {
+    let file = replay::read_up_to(rt.stdin(), MOST_BYTES, rt.alloc())?;
+    // what is lent is a store of a fixed size
+    let mut out = [0u8; list_text::LISTING_ROOM];
+    // what cannot be printed is left out
+    let _ = rt.write_all(listing(&file, &mut out));
+    Ok(())
 }

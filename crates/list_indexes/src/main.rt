@@ -3,47 +3,26 @@
 #![tactic(auto)]
 
 use std::env;
-use std::fs::File;
-use std::os::fd::AsRawFd;
+use std::io::Result;
 
-// The descriptor of standard output.
-const STDOUT_FILENO: i32 = 1;
+// One byte more than the largest file that is read, so that a longer one is seen.
+const MOST_BYTES: usize = 65537;
 
-// Writes a text that was put at the start of out.
-fn write(out: &[u8], size: usize) {
-    if size <= out.len() {
-        io::write_all(STDOUT_FILENO, &out[..size]);
-    }
-}
-
-// Prints the listing of an open file, as crate `list` does of its input.
-fn list(fd: i32) {
-    let mut file = [0u8; 65537];
-    let n = io::read_full(fd, &mut file);
+// Prints the listing of a file, as crate `list` does of its input.
+fn print(rt: &impl Print, file: &[u8]) -> Result<()> {
+    // what is lent is a store of a fixed size
     let mut out = [0u8; list_text::LISTING_ROOM];
-    let size = list_text::list_file(&file[..n], &mut out);
-    write(&out, size);
+    let size = list_text::list_file(file, &mut out);
+    rt.write_all(out.get(..size).unwrap_or(&[]))
 }
 
-// Says on standard error why a file could not be opened.
-fn fail(rt: &HostRuntime, name: &str, why: std::io::Error) {
-    let _said = eprintln!(rt; "{name}: {why}");
-}
-
-// Prints the name of a file and its listing.
-fn show(rt: &HostRuntime, name: &str) {
-    io::write_all(STDOUT_FILENO, b"== ");
-    io::write_all(STDOUT_FILENO, name.as_bytes());
-    io::write_all(STDOUT_FILENO, b"\n");
-    match File::open(rt, name) {
-        Ok(file) => list(file.as_raw_fd()),
-        Err(why) => fail(rt, name, why),
-    }
-}
-
-fn main(rt: HostRuntime) -> std::io::Result<()> {
+fn main(rt: HostRuntime) -> Result<()> {
     for name in env::args(&rt)?.skip(1) {
-        show(&rt, name.as_str());
+        // what cannot be printed is left out
+        let _ = println!(rt; "== {name}");
+        if let Some(file) = replay::load(&rt, name.as_str(), MOST_BYTES)? {
+            let _ = print(&rt, &file);
+        }
     }
     Ok(())
 }

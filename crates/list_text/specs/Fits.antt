@@ -4,7 +4,7 @@
 use Prim.Native.Nat.{ℕ, zero, suc, ◌+◌, ◌-◌, ◌*◌, ◌^◌, ◌≤◌, ◌<◌}
 use Rattle.std.proofs.Math.Path.{◌≡◌, refl, ap, subst}
 use Rattle.std.proofs.Common.{sym, ◌∙◌, inl, ⊎_elim, length-take, le-ltb, ne_eqb}
-use Rattle.std.specs.Prelude.{Bool, get_or, take, drop}
+use Rattle.std.specs.Prelude.{Bool, get_or, take, drop, Err, None, Ok, Option, Result, Some}
 use Rattle.std.proofs.Math.Bool.{true, false}
 use mathlib.Core.List.{List, []}
 use native.Mathlib.Omega.{arith}
@@ -25,37 +25,40 @@ use Rattle.entry.specs.Found.{kept_field, put_start, put_end}
 use Rattle.measure.specs.Inside.{Inside, measured_inside}
 use Rattle.measure.specs.Entry.{measure_at}
 use Rattle.decode.specs.Header.{signature, header_at, on_version}
-use Rattle.decode.specs.declared.header.Header.{Header}
-use Rattle.decode.specs.declared.header.Header.TheVariants.{Opens}
 use Rattle.decode.specs.Entries as entries
 use Rattle.decode.specs.Stores.{Ran, done, unspelled, full, stored, ran, reached, lengths_kept, Reaches, done_reaches, read_is_run}
-use Rattle.decode.specs.declared.entries.Answer.{Answer as Stopped}
-use Rattle.decode.specs.declared.entries.Answer.TheVariants.{Done, NotSpelled, NoRoom}
 use Rattle.extension.specs.Decode.{all_at}
 use Rattle.extension.specs.Theorems.{by_less, by_same, Chain, chain_more, chain_filled, chain_stray}
 use Rattle.extension.specs.Iter.{Found, Ending}
 use Rattle.extension.proofs.Filling.{FirstForbidden, refused_here, refused_later, SaysAll, is_mandatory, all_says, fault_inside}
-use Rattle.extension.specs.declared.iter.Body.{Body}
-use Rattle.extension.specs.declared.iter.Body.TheVariants.{Lies, Missing}
-use Rattle.extension.specs.declared.decode.Space.{Space}
-use Rattle.extension.specs.declared.decode.Space.TheVariants as of_space
 use Rattle.node.specs.Store.{node_size}
 use Rattle.tree.specs.Tree.{read_tree}
-use Rattle.tree.specs.declared.TreeAnswer.{TreeAnswer}
-use Rattle.tree.specs.declared.TreeAnswer.TheVariants as grown
 use Rattle.file.specs.Answer.{number_of, carries_of, value_of}
 use Rattle.file.specs.Read.{Outcome, outcome, marked, grown_into, on_tree, on_space, extensions_into, nothing_before, on_entries, after_entries, entries_into, on_header, read_file}
 use Rattle.file.specs.Trailer.{good_trailer}
 use Rattle.file.specs.declared.Entries.{Entries}
-use Rattle.file.specs.declared.Answer.{Answer}
-use Rattle.file.specs.declared.Answer.TheVariants as answer
-use Rattle.lines.specs.Lines.{line_at, lines_from, refused_text}
+use Rattle.lines.specs.Lines.{line_at, lines_from, refused_text, refused_flag}
 use Rattle.lines.specs.Written as lines
 use Rattle.sums.specs.Cap.{cap, cap_fits}
-use Rattle.lines.proofs.Laws.{line_length, digits_fit, refused_carried, refused_alone}
+use Rattle.lines.proofs.Laws.{line_length, digits_fit, refused_some, refused_none}
 use Rattle.wire.specs.Written.{digits_of}
 use Rattle.kind.specs.Sha1.{sha1_kind}
 use Rattle.list_text.specs.Listed.{text_of, text_of_outcome, listed}
+use Rattle.extension.specs.declared.decode.Error.TheVariants as of_space
+use Rattle.tree.specs.declared.Error.TheVariants as grown
+use Rattle.file.specs.declared.Error.TheVariants as answer
+use Rattle.decode.specs.Made.{done_at, header_with, done_same}
+use Rattle.decode.specs.declared.entries.Done.{Done}
+use Rattle.decode.specs.declared.entries.Error.{Error as EntriesError}
+use Rattle.decode.specs.declared.entries.Error.TheVariants.{NoRoom, NotSpelled}
+use Rattle.decode.specs.declared.header.Error.{Error as HeaderError}
+use Rattle.decode.specs.declared.header.Header.{Header}
+use Rattle.extension.specs.declared.decode.Error.{Error as SpaceError}
+use Rattle.extension.specs.declared.decode.Filled.{Filled}
+use Rattle.extension.specs.declared.iter.Body.{Body}
+use Rattle.file.specs.declared.Error.{Error as FileError}
+use Rattle.file.specs.declared.Reading.{Reading}
+use Rattle.tree.specs.declared.Error.{Error as TreeError}
 
 -- a line but for its path: six digits, a space, two digits for each byte of an id, a space, the stage, a tab and the newline
 abbrev pub line_size : ℕ
@@ -102,11 +105,11 @@ module _ (s : List ℕ) (end : FileAt) (version : ℕ) where
 
   -- the paths of the records that a run stored lie one behind the other
   paths_lie_behind : {n i : ℕ} {at : FileAt} {used : PathAt} {first : Bool} {prev : ℕ} {sparse : Bool} {rs ps : List ℕ} {o : entries.Outcome} → Ran id_size s end version n i at used first prev sparse rs ps o
-      → prev ≤ used.0 → used.0 ≤ length ps → length ps < 2 ^ 64 → (next : FileAt) (used' : PathAt) (sparse' : Bool) → o.answer ≡ Done next used' sparse'
+      → prev ≤ used.0 → used.0 ≤ length ps → length ps < 2 ^ 64 → (next : FileAt) (used' : PathAt) (sparse' : Bool) → o.answer ≡ Ok (done_at next used' sparse')
       → used.0 + paths_length o.records (lying_in o.paths) n i ≤ used'.0
   unfolding paths_length
   paths_lie_behind (done {used = used}) hp hu small next used' sparse' q =
-      let b : used ≡ used' = cc in
+      let b : used ≡ used' = (done_same q).used in
       let b' : used.0 ≡ used'.0 = ap (λ (y : PathAt). y.0) b in
       omega arith
   paths_lie_behind unspelled hp hu small next used' sparse' q = let z : ◌≡◌ {A = ℕ} 0 1 = cc in absurd (omega arith)
@@ -130,10 +133,10 @@ module _ (s : List ℕ) (end : FileAt) (version : ℕ) where
   stops_within full = omega arith
   stops_within (stored {n = n} {i = i} {o = o} flags keep suffix len next e hi room r) = by o.answer (stops_within r)
     where
-      by : (a : Stopped) → reached n (i + 1) a ≤ i + 1 + n → reached (suc n) i a ≤ i + suc n
-      by (Done y u z) h = omega arith
-      by (NotSpelled y) h = omega arith
-      by (NoRoom y) h = omega arith
+      by : (a : Result Done EntriesError) → reached n (i + 1) a ≤ i + 1 + n → reached (suc n) i a ≤ i + suc n
+      by (Ok d) h = omega arith
+      by (Err (NotSpelled y)) h = omega arith
+      by (Err (NoRoom y)) h = omega arith
 
 -- ---- a refusal
 
@@ -146,10 +149,10 @@ refusal_room = 50
 
 refusal_short : (number value : ℕ) (carries : Bool) → number ≤ most → value ≤ most → length (refused_text number carries value) ≤ refusal_room
 refusal_short number value true h k =
-    omega (arith, refused_carried number value (length (digits_of 10 number)) (length (digits_of 10 value)) true refl refl refl, digits_fit number _ refl h, digits_fit value _ refl k)
-refusal_short number value false h k = omega (arith, refused_alone number value (length (digits_of 10 number)) 0 false refl refl, digits_fit number _ refl h)
+    omega (arith, refused_some number (length (digits_of 10 number)) (Some value) refl value (length (digits_of 10 value)) refl refl, digits_fit number _ refl h, digits_fit value _ refl k)
+refusal_short number value false h k = omega (arith, refused_none number (length (digits_of 10 number)) None refl refl, ap length (refused_flag number value false), digits_fit number _ refl h)
 
-answer_short : (a : Answer) (rs : List ℕ) (ps : Paths) → (number_of a ≡ 0 → ⊥) → number_of a ≤ most → value_of a ≤ most → length (text_of id_size a rs ps) ≤ refusal_room
+answer_short : (a : Result Reading FileError) (rs : List ℕ) (ps : Paths) → (number_of a ≡ 0 → ⊥) → number_of a ≤ most → value_of a ≤ most → length (text_of id_size a rs ps) ≤ refusal_room
 unfolding text_of
 answer_short a rs ps d h k = rw (ne_eqb (number_of a) 0 d) (refusal_short (number_of a) (value_of a) (carries_of a) h k)
 
@@ -169,34 +172,34 @@ module _ (s : List ℕ) (bytes : (i : ℕ) → get_or s i 0 < 256) (m : ℕ) (li
 
   module _ (rs : List ℕ) (ps : Paths) where
     -- the text of an answer to which these stores belong
-    abbrev Fits : Answer → Type 0
+    abbrev Fits : Result Reading FileError → Type 0
     Fits a = length (text_of id_size a rs ps) ≤ m
 
-    refusal_fits : (a : Answer) → (number_of a ≡ 0 → ⊥) → number_of a ≤ most → value_of a ≤ most → Fits a
+    refusal_fits : (a : Result Reading FileError) → (number_of a ≡ 0 → ⊥) → number_of a ≤ most → value_of a ≤ most → Fits a
     refusal_fits a d h k = omega (arith, answer_short a rs ps d h k)
 
-    tree_fits_lem : (e : Entries) → length (lines_from id_size rs ps e.records 0) ≤ m → (t : TreeAnswer × List ℕ) → Fits (grown_into e t).0
+    tree_fits_lem : (e : Entries) → length (lines_from id_size rs ps e.records 0) ≤ m → (t : Result (Option ℕ) TreeError × List ℕ) → Fits (grown_into e t).0
     unfolding text_of
-    tree_fits_lem e fit (grown.Tree n, ns) = fit
-    tree_fits_lem e fit (grown.Malformed, ns) = fit
-    tree_fits_lem e fit (grown.TooDeep, ns) = refusal_fits answer.TooDeep (λ z. omega arith) (lit≤ tt) (lit≤ tt)
-    tree_fits_lem e fit (grown.NoRoom, ns) = refusal_fits answer.NoNodeRoom (λ z. omega arith) (lit≤ tt) (lit≤ tt)
+    tree_fits_lem e fit (Ok (Some n), ns) = fit
+    tree_fits_lem e fit (Ok None, ns) = fit
+    tree_fits_lem e fit (Err grown.TooDeep, ns) = refusal_fits (Err answer.TooDeep) (λ z. omega arith) (lit≤ tt) (lit≤ tt)
+    tree_fits_lem e fit (Err grown.NoRoom, ns) = refusal_fits (Err answer.NoNodeRoom) (λ z. omega arith) (lit≤ tt) (lit≤ tt)
 
     module _ (e : Entries) (fit : length (lines_from id_size rs ps e.records 0) ≤ m) (next : ℕ) (inside : next ≤ length s - id_size) (small : length s ≤ most) (ns : List ℕ) where
-      space_fits : (w : Space) → all_at s next (length s - id_size) ≡ w → Fits (on_space id_size depth_limit s e ns w).0
+      space_fits : (w : Result Filled SpaceError) → all_at s next (length s - id_size) ≡ w → Fits (on_space id_size depth_limit s e ns w).0
       unfolding text_of
-      space_fits (of_space.Filled mark bodies) q = body_fits bodies.tree
+      space_fits (Ok f) q = body_fits f.bodies.tree
         where
-          body_fits : (b : Body) → Fits (on_tree id_size depth_limit s (marked e mark) ns b).0
-          body_fits Missing = fit
-          body_fits (Lies start stop) = tree_fits_lem (marked e mark) fit (read_tree id_size depth_limit s start.0 stop.0 ns)
-      space_fits (of_space.NotFilled place) q =
+          body_fits : (b : Option Body) → Fits (on_tree id_size depth_limit s (marked e f.sparse) ns b).0
+          body_fits None = fit
+          body_fits (Some b) = tree_fits_lem (marked e f.sparse) fit (read_tree id_size depth_limit s b.start.0 b.stop.0 ns)
+      space_fits (Err (of_space.NotFilled place)) q =
           let (a, b) = fault_inside s next (length s - id_size) place q inside (omega arith) in
-          refusal_fits (answer.NotFilled place.0) (λ z. omega arith) (lit≤ tt) (omega (arith, b))
-      space_fits (of_space.Mandatory signature) q =
-          refusal_fits (answer.Mandatory signature) (λ z. omega arith) (lit≤ tt) (by (subst (SaysAll s next (length s - id_size)) q (all_says s next (length s - id_size))))
+          refusal_fits (Err (answer.NotFilled place.0)) (λ z. omega arith) (lit≤ tt) (omega (arith, b))
+      space_fits (Err (of_space.Mandatory signature)) q =
+          refusal_fits (Err (answer.Mandatory signature)) (λ z. omega arith) (lit≤ tt) (by (subst (SaysAll s next (length s - id_size)) q (all_says s next (length s - id_size))))
         where
-          by : {v : ℕ} → SaysAll s next (length s - id_size) (of_space.Mandatory v) → v ≤ most
+          by : {v : ℕ} → SaysAll s next (length s - id_size) (Err (of_space.Mandatory v)) → v ≤ most
           by (is_mandatory c f) = mandatory_small c f
 
       extensions_fit : Fits (extensions_into id_size depth_limit s next (length s - id_size) e ns).0
@@ -213,17 +216,17 @@ module _ (s : List ℕ) (bytes : (i : ℕ) → get_or s i 0 < 256) (m : ℕ) (li
     end = file_at (length s - id_size)
 
     ran_fits : (version count : ℕ) → count ≤ most → header_size + id_size ≤ length s → (o : entries.Outcome) → Ran id_size s end version count 0 (file_at header_size) (placed 0) true 0 false rs ps o
-        → (a : Stopped) → o.answer ≡ a → FitsAll (on_entries id_size depth_limit s version count o.records o.paths ns a)
-    ran_fits version count few long o r (Done next used sparse) q =
-        let d : Reaches id_size (lit≤ tt) s end version count 0 header_size 0 rs ps next.0 used.0 = done_reaches id_size (lit≤ tt) s end version r (omega arith) (omega arith) next used sparse q in
-        let paths = paths_lie_behind s end version r (omega arith) (omega arith) lent next used sparse q in
+        → (a : Result Done EntriesError) → o.answer ≡ a → FitsAll (on_entries id_size depth_limit s version count o.records o.paths ns a)
+    ran_fits version count few long o r (Ok d₁) q =
+        let d : Reaches id_size (lit≤ tt) s end version count 0 header_size 0 rs ps d₁.next.0 d₁.used.0 = done_reaches id_size (lit≤ tt) s end version r (omega arith) (omega arith) d₁.next d₁.used d₁.sparse q in
+        let paths = paths_lie_behind s end version r (omega arith) (omega arith) lent d₁.next d₁.used d₁.sparse q in
         let records : count ≤ records_in rs = ⊎_elim (λ z. omega arith) (λ z. omega arith) d.slots in
         let fit : length (lines_from id_size o.records (lying_in o.paths) count 0) ≤ m = omega (arith, lines_length o.records (lying_in o.paths) count 0, paths, d.within) in
-        extensions_fit o.records (lying_in o.paths) (record { version = version; sparse = sparse; records = count; used = used.0 }) fit next.0 (d.stops (omega arith)) small ns
-    ran_fits version count few long o r (NotSpelled k) q =
-        refusal_fits o.records (lying_in o.paths) (answer.NotSpelled k) (λ z. omega arith) (lit≤ tt) (omega (arith, ap (reached count 0) q, stops_within s end version r))
-    ran_fits version count few long o r (NoRoom k) q =
-        refusal_fits o.records (lying_in o.paths) (answer.NoEntryRoom k) (λ z. omega arith) (lit≤ tt) (omega (arith, ap (reached count 0) q, stops_within s end version r))
+        extensions_fit o.records (lying_in o.paths) (record { version = version; sparse = d₁.sparse; records = count; used = d₁.used.0 }) fit d₁.next.0 (d.stops (omega arith)) small ns
+    ran_fits version count few long o r (Err (NotSpelled k)) q =
+        refusal_fits o.records (lying_in o.paths) (Err (answer.NotSpelled k)) (λ z. omega arith) (lit≤ tt) (omega (arith, ap (reached count 0) q, stops_within s end version r))
+    ran_fits version count few long o r (Err (NoRoom k)) q =
+        refusal_fits o.records (lying_in o.paths) (Err (answer.NoEntryRoom k)) (λ z. omega arith) (lit≤ tt) (omega (arith, ap (reached count 0) q, stops_within s end version r))
 
     entries_fit : (version count : ℕ) → count ≤ most → header_size + id_size ≤ length s → FitsAll (entries_into id_size depth_limit s version count rs ps ns)
     unfolding entries_into
@@ -234,26 +237,26 @@ module _ (s : List ℕ) (bytes : (i : ℕ) → get_or s i 0 < 256) (m : ℕ) (li
         (ran_fits version count few long o (ran id_size s end version count 0 (file_at header_size) (placed 0) true 0 false rs ps) o.answer refl)
 
     opens_fits : (version count : ℕ) → count ≤ most → header_size + id_size ≤ length s → (t : Bool)
-        → FitsAll (pick t (entries_into id_size depth_limit s version count rs ps ns) (outcome answer.BadTrailer rs ps ns))
+        → FitsAll (pick t (entries_into id_size depth_limit s version count rs ps ns) (outcome (Err answer.BadTrailer) rs ps ns))
     opens_fits version count few long true = entries_fit version count few long
-    opens_fits version count few long false = refusal_fits rs (lying_in ps) answer.BadTrailer (λ z. omega arith) (lit≤ tt) (lit≤ tt)
+    opens_fits version count few long false = refusal_fits rs (lying_in ps) (Err answer.BadTrailer) (λ z. omega arith) (lit≤ tt) (lit≤ tt)
 
     file_fits : FitsAll (read_file sha1_kind depth_limit s rs ps ns)
     unfolding read_file header_at on_version
     file_fits =
-        by_less P (length s) (header_size + id_size) (λ h. refusal_fits rs (lying_in ps) answer.ShortFile (λ z. omega arith) (lit≤ tt) (lit≤ tt))
+        by_less P (length s) (header_size + id_size) (λ h. refusal_fits rs (lying_in ps) (Err answer.ShortFile) (λ z. omega arith) (lit≤ tt) (lit≤ tt))
         (λ long. by_same P (be_at 4 s 0) signature
         (λ d. by_same P version 2 (λ e. opens long) (λ e. by_same P version 3 (λ e. opens long) (λ e. by_same P version 4 (λ e. opens long)
-        (λ e. refusal_fits rs (lying_in ps) (answer.OtherVersion version) (λ z. omega arith) (lit≤ tt) (word_small 4)))))
-        (λ d. refusal_fits rs (lying_in ps) answer.NoSignature (λ z. omega arith) (lit≤ tt) (lit≤ tt)))
+        (λ e. refusal_fits rs (lying_in ps) (Err (answer.OtherVersion version)) (λ z. omega arith) (lit≤ tt) (word_small 4)))))
+        (λ d. refusal_fits rs (lying_in ps) (Err answer.NoSignature) (λ z. omega arith) (lit≤ tt) (lit≤ tt)))
       where
         version : ℕ
         version = be_at 4 s 4
 
-        P : Header → Type 0
+        P : Result Header HeaderError → Type 0
         P h = FitsAll (on_header sha1_kind depth_limit s rs ps ns h)
 
-        opens : header_size + id_size ≤ length s → P (Opens version (be_at 4 s 8))
+        opens : header_size + id_size ≤ length s → P (Ok (header_with version (be_at 4 s 8)))
         opens long = opens_fits version (be_at 4 s 8) (word_small 8) long (good_trailer sha1_kind s)
 
 -- ---- THE CLAIM

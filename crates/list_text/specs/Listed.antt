@@ -1,31 +1,32 @@
 -- The text of an answer, and all that the listing program prints of a file (01, Marked pages: "The program reads standard input up to 65,536 bytes, with room for
 -- 512 records, 65,536 path bytes and 256 nodes ... longer input only `too big`"). Assumes nothing.
-use Rattle.std.specs.Prelude.{ℕ, ◌*◌, List, [], ◌∷◌, ltb, eqb, length, replicate}
+use Rattle.std.specs.Prelude.{ℕ, ◌*◌, List, [], ◌∷◌, ltb, eqb, length, replicate, Err, Ok, Result, is_some, unwrap_or}
 use Rattle.laws.specs.Pick.{pick}
 use Rattle.kind.specs.Kind.{Kind}
 use Rattle.entry.specs.Paths.{Paths, lying_in}
 use Rattle.file.specs.Answer.{number_of, carries_of, value_of}
 use Rattle.file.specs.Read.{Outcome, read_file}
-use Rattle.file.specs.declared.Answer.{Answer}
-use Rattle.file.specs.declared.Answer.TheVariants.{Read, ShortFile, NoSignature, OtherVersion, BadTrailer, NotSpelled, NoEntryRoom, NotFilled, Mandatory, TooDeep, NoNodeRoom}
 use Rattle.lines.specs.Lines.{space, newline, lines_from, refused_text}
+use Rattle.file.specs.declared.Error.{Error as FileError}
+use Rattle.file.specs.declared.Error.TheVariants.{BadTrailer, Mandatory, NoEntryRoom, NoNodeRoom, NoSignature, NotFilled, NotSpelled, OtherVersion, ShortFile, TooDeep}
+use Rattle.file.specs.declared.Reading.{Reading}
 
 -- how many records were read; none by a refusal
-abbrev pub records_of : Answer → ℕ
-records_of (Read version sparse tree records paths nodes) = records
-records_of ShortFile = 0
-records_of NoSignature = 0
-records_of (OtherVersion version) = 0
-records_of BadTrailer = 0
-records_of (NotSpelled k) = 0
-records_of (NoEntryRoom k) = 0
-records_of (NotFilled place) = 0
-records_of (Mandatory signature) = 0
-records_of TooDeep = 0
-records_of NoNodeRoom = 0
+abbrev pub records_of : Result Reading FileError → ℕ
+records_of (Ok r) = r.records
+records_of (Err ShortFile) = 0
+records_of (Err NoSignature) = 0
+records_of (Err (OtherVersion version)) = 0
+records_of (Err BadTrailer) = 0
+records_of (Err (NotSpelled k)) = 0
+records_of (Err (NoEntryRoom k)) = 0
+records_of (Err (NotFilled place)) = 0
+records_of (Err (Mandatory signature)) = 0
+records_of (Err TooDeep) = 0
+records_of (Err NoNodeRoom) = 0
 
 -- number 0 is a file that was read: a line for each record; any other is a refusal: one line
-unfoldable pub text_of : ℕ → Answer → List ℕ → Paths → List ℕ
+unfoldable pub text_of : ℕ → Result Reading FileError → List ℕ → Paths → List ℕ
 text_of id a rs ps = pick (eqb (number_of a) 0) (lines_from id rs ps (records_of a) 0) (refused_text (number_of a) (carries_of a) (value_of a))
 
 -- "too big" and a newline

@@ -4,12 +4,12 @@
 
 ghost use Rattle.std.specs.Prelude.{◌≡◌};
 ghost use Rattle.lines.specs.Written.{outcome, written};
-ghost use Rattle.list_text.specs.Listed.{records_of, text_of, too_big, listed};
+ghost use Rattle.list_text.specs.Listed.{text_of, too_big, listed};
 ghost use Rattle.format.specs.Format.{depth_limit, id_size};
 ghost use Rattle.kind.specs.Sha1.{sha1_kind};
 ghost use Rattle.entry.specs.Paths.{lying_in};
 
-use file::Answer;
+use file::{Error, Reading};
 
 // The largest file that the listing program reads, and the room that it lends: 512 records, 65,536 path bytes and 256 nodes.
 const MOST_BYTES: usize = 65536;
@@ -23,45 +23,20 @@ const NODE_ROOM: usize = 18432;
 // The room in which the text of every file fits: 512 lines of 51 bytes and their paths, which have a byte of the path store each (`every_listing_fits`).
 pub const LISTING_ROOM: usize = 91648;
 
-// How many records an answer speaks of.
-fn records_of(answer: Answer) -> usize
-    ensures { result ≡ records_of answer }
-{
-    match answer {
-        Answer::Read {
-            version: _,
-            sparse: _,
-            tree: _,
-            records,
-            path_bytes: _,
-            nodes: _,
-        } => records,
-        Answer::ShortFile => 0,
-        Answer::NoSignature => 0,
-        Answer::OtherVersion(_) => 0,
-        Answer::BadTrailer => 0,
-        Answer::NotSpelled(_) => 0,
-        Answer::NoEntryRoom(_) => 0,
-        Answer::NotFilled(_) => 0,
-        Answer::Mandatory(_) => 0,
-        Answer::TooDeep => 0,
-        Answer::NoNodeRoom => 0,
-    }
-}
-
 // Writes an answer as text at the start of out: the lines of its records, or one line that names the refusal. Answers how long the text is; where it does not fit, out
 // stays as it was.
-pub fn write_lines(answer: Answer, records: &[u8], paths: &[u8], out: &mut [u8]) -> usize
+pub fn write_lines(
+    answer: Result<Reading, Error>,
+    records: &[u8],
+    paths: &[u8],
+    out: &mut [u8],
+) -> usize
     ensures { outcome result out.new ≡ written (text_of id_size answer records.now (lying_in paths.now)) out.old }
 {
-    let number = file::number(answer);
-    if number == 0 {
-        let n = records_of(answer);
-        return lines::write_records(records, paths, n, out);
+    match answer {
+        Ok(read) => lines::write_records(records, paths, read.records, out),
+        Err(_) => lines::write_refused(file::number(answer), file::carried(answer), out),
     }
-    let carries = file::carries(answer);
-    let value = file::carried(answer);
-    lines::write_refused(number, carries, value, out)
 }
 
 // Writes what is said of a file that is too long, if it fits.

@@ -4,3 +4,4 @@ pub mod Numbers
 pub mod Inside
 pub mod Settled
 pub mod Open
+pub mod Made

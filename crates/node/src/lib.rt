@@ -10,8 +10,7 @@ ghost use Rattle.format.specs.Format.{id_size};
 ghost use Rattle.node.specs.Head.{spaced_at, ended_at, head_at};
 ghost use Rattle.node.specs.Store.{numbers_of, put_at, with_parent, word_at, name_start_at, name_end_at, count_at, subtrees_at, parent_at, id_at, name_inside, name_at, nodes_in};
 
-use slices::Ends;
-use wire::{FileAt, Signed, Unsigned};
+use wire::{FileAt, Part, Signed};
 
 // The bytes of a node in the store.
 pub const NODE_SIZE: usize = 72;
@@ -52,88 +51,62 @@ pub struct Node {
     pub next: usize,
 }
 
-#[derive(Drop)]
-pub enum Head {
-    Is(Node),
-    Nothing,
-}
-
 // A space at `at`, and then the subtree count.
-fn spaced(file: &[u8], at: usize, end: usize) -> Unsigned
-    requires { end ≤ length file.now }
-    ensures { result ≡ spaced_at file.now at end }
+#[tactic(auto, unfolding(crate::specs::Head::spaced_at))]
+fn spaced(part: Part, at: usize) -> Option<(u64, usize)>
+    ensures { result ≡ spaced_at part.entry.bytes.now at part.entry.end }
 {
-    if end <= at {
-        return Unsigned::Bad;
+    if part.end <= at || part.bytes[at] != b' ' {
+        return None;
     }
-    if file[at] == b' ' {
-        return wire::digits(file, at + 1, end, DECIMAL, MOST_SUBTREES);
-    }
-    Unsigned::Bad
+    part.digits(at + 1, DECIMAL, MOST_SUBTREES)
 }
 
 // Behind the subtree count: a newline, and then an id of so many bytes.
+#[tactic(auto, unfolding(crate::specs::Head::ended_at))]
 fn ended(
-    file: &[u8],
-    end: usize,
+    part: Part,
     start: usize,
     stop: usize,
     count: u64,
     bytes: usize,
-    u: Unsigned,
-) -> Head
-    requires { end ≤ length file.now }
-    ensures { result ≡ ended_at file.now end start stop count bytes u }
+    u: Option<(u64, usize)>,
+) -> Option<Node>
+    ensures { result ≡ ended_at part.entry.bytes.now part.entry.end start stop count bytes u }
 {
-    match u {
-        Unsigned::Bad => Head::Nothing,
-        Unsigned::Value(subtrees, at) => {
-            if end <= at {
-                return Head::Nothing;
-            }
-            if file[at] == b'\n' {
-                let id = at + 1;
-                if end - id < bytes {
-                    return Head::Nothing;
-                }
-                return Head::Is(Node {
-                    start,
-                    stop,
-                    count,
-                    subtrees,
-                    id,
-                    next: id + bytes,
-                });
-            }
-            Head::Nothing
-        }
+    let (subtrees, at) = u?;
+    if part.end <= at || part.bytes[at] != b'\n' {
+        return None;
     }
+    let id = at + 1;
+    if part.end - id < bytes {
+        return None;
+    }
+    Some(Node {
+        start,
+        stop,
+        count,
+        subtrees,
+        id,
+        next: id + bytes,
+    })
 }
 
 // The head of the node at `at`, of a tree whose bytes end at `end`.
-pub fn node_head(file: &[u8], at: usize, end: usize) -> Head
+#[tactic(auto, using(crate::proofs::Laws::stop_less), unfolding(crate::specs::Head::head_at, crate::specs::Head::named_at, crate::specs::Head::counted_at))]
+pub fn node_head(file: &[u8], at: usize, end: usize) -> Option<Node>
     ensures { result ≡ head_at id_size file.now at end }
 {
     if file.len() < end {
-        return Head::Nothing;
+        return None;
     }
-    let name = slices::first_nul(file, at, end);
-    match name {
-        Ends::Never => Head::Nothing,
-        Ends::With(stop) => {
-            let c = wire::signed_digits(file, stop + 1, end, DECIMAL, COUNT_HALF);
-            match c {
-                Signed::NoNumber => Head::Nothing,
-                Signed::Plain(count, n) => {
-                    let u = spaced(file, n, end);
-                    ended(file, end, at, stop, count, format::ID_SIZE, u)
-                }
-                Signed::Negative(_, n) => {
-                    let u = spaced(file, n, end);
-                    ended(file, end, at, stop, MINUS_ONE, 0, u)
-                }
-            }
-        }
+    let part = Part { bytes: file, end };
+    let stop = part.first_nul(at)?;
+    let (counted, n) = part.signed_digits(stop + 1, DECIMAL, COUNT_HALF)?;
+    let subtrees = spaced(part, n);
+    match counted {
+        Signed::Plain(count) => ended(part, at, stop, count, format::ID_SIZE, subtrees),
+        Signed::Negative(_) => ended(part, at, stop, MINUS_ONE, 0, subtrees),
     }
 }
 
@@ -151,32 +124,25 @@ fn put_numbers(w: &mut [u8], n: Node, parent: u64)
 
 // Writes node i, whose id stands in the file. It is made in an array first: the compiler knows that this overlaps neither slice. Where the store has no node i,
 // or the id does not lie in the file or is too long, nothing is written.
+#[tactic(auto, unfolding(crate::specs::Store::put_at))]
 pub fn put_node(file: &[u8], n: Node, parent: u64, nodes: &mut [u8], i: usize)
     ensures { nodes.new ≡ put_at file.now n parent nodes.old i }
 {
-    let id = n.id;
-    let next = n.next;
-    if nodes.len() / NODE_SIZE <= i {
+    if nodes.len() / NODE_SIZE <= i || n.next < n.id {
         return;
     }
-    if next < id {
+    let bytes = n.next - n.id;
+    if ID_ROOM < bytes || file.len() < n.next {
         return;
     }
-    let bytes = next - id;
-    if ID_ROOM < bytes {
-        return;
-    }
-    if file.len() < next {
-        return;
-    }
-    let base = i * NODE_SIZE;
     let mut w = [0u8; NODE_SIZE];
     put_numbers(&mut w, n, parent);
-    slices::copy_bytes(file, id, bytes, &mut w, ID);
-    slices::copy_bytes(&w, 0, NODE_SIZE, nodes, base);
+    slices::copy_bytes(file, n.id, bytes, &mut w, ID);
+    slices::copy_bytes(&w, 0, NODE_SIZE, nodes, i * NODE_SIZE);
 }
 
 // Writes the parent of node i; nothing where there is no such node.
+#[tactic(auto, unfolding(crate::specs::Store::with_parent))]
 pub fn put_parent(nodes: &mut [u8], i: usize, parent: u64)
     ensures { nodes.new ≡ with_parent nodes.old i parent }
 {
@@ -193,6 +159,7 @@ pub fn nodes_in(nodes: &[u8]) -> usize
 }
 
 // The eight bytes at k of node i; 0 where there is no such node.
+#[tactic(auto, unfolding(crate::specs::Store::word_at))]
 fn word(nodes: &[u8], i: usize, k: usize) -> u64
     requires { k + 8 ≤ 72 }
     ensures { result ≡ word_at k nodes.now i }
@@ -208,16 +175,14 @@ fn word(nodes: &[u8], i: usize, k: usize) -> u64
 pub fn name_start(nodes: &[u8], i: usize) -> FileAt
     ensures { result ≡ file_at (name_start_at nodes.now i) }
 {
-    let at = word(nodes, i, NAME_START);
-    FileAt(at as usize)
+    FileAt(word(nodes, i, NAME_START) as usize)
 }
 
 // Where the name of node i ends.
 pub fn name_end(nodes: &[u8], i: usize) -> FileAt
     ensures { result ≡ file_at (name_end_at nodes.now i) }
 {
-    let at = word(nodes, i, NAME_END);
-    FileAt(at as usize)
+    FileAt(word(nodes, i, NAME_END) as usize)
 }
 
 // The entry count of node i, -1 as 2^64 - 1.
@@ -242,6 +207,7 @@ pub fn parent(nodes: &[u8], i: usize) -> u64
 }
 
 // The id of node i as the store has it, which is zeros for a node that was read and has none; empty where there is no such node.
+#[tactic(auto, unfolding(crate::specs::Store::id_at))]
 pub fn id(nodes: &[u8], i: usize) -> &[u8]
     ensures { result.now ≡ id_at id_size nodes.now i }
 {
@@ -255,27 +221,23 @@ pub fn id(nodes: &[u8], i: usize) -> &[u8]
 }
 
 // Whether the name of node i lies in the bytes that hold the names.
+#[tactic(auto, unfolding(crate::specs::Store::name_inside, crate::specs::Store::is_part))]
 pub fn name_inside(names: &[u8], nodes: &[u8], i: usize) -> bool
     ensures { result ≡ name_inside names.now nodes.now i }
 {
     let start = word(nodes, i, NAME_START) as usize;
     let end = word(nodes, i, NAME_END) as usize;
-    if start <= end {
-        return end <= names.len();
-    }
-    false
+    start <= end && end <= names.len()
 }
 
 // The name of node i; empty where it does not lie in the bytes that hold the names.
+#[tactic(auto, unfolding(crate::specs::Store::name_at, crate::specs::Store::part_of, crate::specs::Store::is_part))]
 pub fn name<'a, 'b>(names: &'a [u8], nodes: &'b [u8], i: usize) -> &'a [u8]
     ensures { result.now ≡ name_at names.now nodes.now i }
 {
     let start = word(nodes, i, NAME_START) as usize;
     let end = word(nodes, i, NAME_END) as usize;
-    if end < start {
-        return &names[0..0];
-    }
-    if names.len() < end {
+    if end < start || names.len() < end {
         return &names[0..0];
     }
     &names[start..end]

@@ -5,6 +5,7 @@ use mathlib.Core.Logic.{◌⊎◌, inl, inr, ⊎_elim}
 use mathlib.Core.List.{List}
 use Prim.Native.Nat.{ℕ, zero, suc, ◌+◌, ◌-◌, ◌≤◌, ◌<◌}
 use native.Mathlib.Omega.{arith}
+use lib.Dec.{eqb}
 use borrow.Author.Tests.{eq-eqb, ne_eqb}
 use Rattle.laws.specs.Pick.{pick}
 use Rattle.laws.specs.Tests.{lt_or_ge, tri, Same, same, differs, same?}
@@ -165,7 +166,7 @@ module _ (ns nm : List ℕ) (w : walks depth_limit ns ≡ true) (p last : ℕ) w
           pair : Rising
           pair = record { last = b; bytes = so.bytes; git = so.git }
 
-    pub listing_end : c ≡ 0 → (rising : Bool) → rising ≡ pick so.bytes true so.git → Seen ns nm p (record { count = count; rising = rising })
+    listing_end : c ≡ 0 → (rising : Bool) → rising ≡ pick so.bytes true so.git → Seen ns nm p (record { count = count; rising = rising })
     unfolding child_count
     listing_end z rising e = record {
       count = let none : child_count ns p c 1 ≡ 0 = rw z in omega (arith, inv.run);
@@ -177,6 +178,12 @@ module _ (ns nm : List ℕ) (w : walks depth_limit ns ≡ true) (p last : ℕ) w
             distinct_differ nm ns p 1 (nodes_in ns) (λ i j a l m x y n. irreflexive (subst (λ (v : List ℕ). Before (name_at nm ns j) v) n (inv.bytes es i j a (omega arith) l m x y)))
         by false es t et q =
             distinct_differ nm ns p 1 (nodes_in ns) (λ i j a l m x y n. git_irreflexive (name_at nm ns j) (subst (λ (v : List ℕ). GitBefore (name_at nm ns j) v) n (inv.git (et ∙ q) i j a (omega arith) l m x y)))
+
+    pub listing_bytes : c ≡ 0 → so.bytes ≡ true → Seen ns nm p (record { count = count; rising = so.bytes })
+    listing_bytes z h = listing_end z so.bytes (h ∙ sym (rw h))
+
+    pub listing_git : c ≡ 0 → so.bytes ≡ false → Seen ns nm p (record { count = count; rising = so.git })
+    listing_git z h = listing_end z so.git (sym (rw h))
 
 -- ---- in pairs
 
@@ -294,14 +301,14 @@ module _ (ns nm : List ℕ) (w : walks depth_limit ns ≡ true) (p : ℕ) where
 -- ---- what the list settles
 
 module _ (ns nm : List ℕ) (i said : ℕ) (kids : WalkedKids) (es : said ≡ subtrees_at ns i) (seen : Seen ns nm i kids) where
-  pub seen_miscounted : (said ≡ kids.count → ⊥) → false ≡ kids_fit ns nm i
+  pub seen_miscounted : (said ≡ kids.count → ⊥) → eqb said kids.count ≡ kids_fit ns nm i
   unfolding kids_fit
-  seen_miscounted h = sym (rw (← es, ← seen.count, ne_eqb said kids.count h))
+  seen_miscounted h = rw (← es, ← seen.count, ne_eqb said kids.count h)
 
   module _ (h : said ≡ kids.count) where
-    pub seen_rising : kids.rising ≡ true → true ≡ kids_fit ns nm i
+    pub seen_rising : kids.rising ≡ true → kids.rising ≡ kids_fit ns nm i
     unfolding kids_fit
-    seen_rising k = sym (rw (← es, ← seen.count, eq-eqb said kids.count h) (seen.differ k))
+    seen_rising k = k ∙ sym (rw (← es, ← seen.count, eq-eqb said kids.count h) (seen.differ k))
 
     pub seen_compared : (t : Bool) → t ≡ siblings_differ nm ns i 1 (nodes_in ns) → t ≡ kids_fit ns nm i
     unfolding kids_fit
@@ -447,7 +454,7 @@ module _ (ns nm : List ℕ) (w : walks depth_limit ns ≡ true) (n j : ℕ) (inv
 pub shallow_walks : (ns : List ℕ) (t : Bool) → t ≡ walks_within depth_limit ns → t ≡ true → walks depth_limit ns ≡ true
 shallow_walks ns t e h = within_walks depth_limit ns (sym e ∙ h)
 
-pub ruleset listing-laws = (listing_start, listing_less, listing_more, listing_end)
+pub ruleset listing-laws = (listing_start, listing_less, listing_more, listing_bytes, listing_git)
 
 pub ruleset pair-laws = (twinless_some, twinless_start, twinless_end, twinless_found, twinless_less, twinless_more, differing_start, differing_end, differing_child, differing_found, differing_less, differing_more)
 

@@ -1,10 +1,8 @@
 -- A proper node table (01, Writing): "non-empty, node 0 alone has no parent, every other parent is an earlier node, subtree counts agree with parents, counts are -1
 -- to 2^31 - 1, sibling names are distinct, names lie in the lent bytes and hold no NUL, and depth is at most 64", by 02, A2, 512; over the depth. Assumes nothing.
-use Rattle.std.specs.Prelude.{Bool, true, false, List, ℕ, zero, suc, ◌+◌, ◌-◌, ltb, eqb, length}
+use Rattle.std.specs.Prelude.{Bool, true, false, List, ℕ, zero, suc, ◌+◌, ◌-◌, ltb, eqb, length, None, Option, Some, is_none}
 use Rattle.laws.specs.Pick.{pick}
 use Rattle.slices.specs.Bytes.{nul_at}
-use Rattle.slices.specs.declared.Ends.{Ends}
-use Rattle.slices.specs.declared.Ends.TheVariants.{With, Never}
 use Rattle.node.specs.Head.{count_half, minus_one}
 use Rattle.node.specs.Store.{nodes_in, count_at, subtrees_at, parent_at, name_inside, name_at}
 use Rattle.siblings.specs.Siblings.{is_child, siblings_differ}
@@ -20,12 +18,8 @@ parent_fits ns i = pick (eqb i 0) (eqb (parent_at ns i) minus_one) (ltb (parent_
 unfoldable pub count_fits : List ℕ → ℕ → Bool
 count_fits ns i = pick (eqb (count_at ns i) minus_one) true (ltb (count_at ns i) count_half)
 
-abbrev pub is_never : Ends → Bool
-is_never (With n) = false
-is_never Never = true
-
 unfoldable pub holds_none : List ℕ → Bool
-holds_none name = is_never (nul_at name 0 (length name))
+holds_none name = is_none (nul_at name 0 (length name))
 
 -- in the lent bytes, without NUL
 unfoldable pub name_fits : List ℕ → List ℕ → ℕ → Bool

@@ -1,5 +1,5 @@
 // The numbers of 01's table "When the desk says no": each refusal is one constant here and one in specs/Refusal.antt, and the contract of every function that returns
-// the one cites the other, by the `number_of` of its answer.
+// the one cites the other, by the `number_of` of its answer. They are numbers, since C is told them; in Rattle the refusals of each crate are an error enum.
 
 #![tactic(auto)]
 

@@ -1,9 +1,10 @@
 -- Laws of the schedule, the rounds and the blocks, each in the form in which a loop's turn or a return asks it. Assumes nothing.
-use Rattle.std.proofs.Common.{◌≡◌, ℕ, suc, ◌+◌, ◌-◌, ◌*◌, ◌%◌, ◌^◌, ◌<◌, ◌≤◌, List, [], ◌∷◌, ◌++◌, length, get_or, take, drop, set, sym, refl, ap, ◌∙◌, append_assoc, append-nil, add_assoc, add-one, arith, drop_of_length-le, take_all, drop-cons, drop-drop, take-suc-set, le-ltb, lt-ltb}
+use Rattle.std.proofs.Common.{◌≡◌, ℕ, suc, ◌+◌, ◌*◌, ◌%◌, ◌^◌, ◌<◌, ◌≤◌, List, [], ◌∷◌, ◌++◌, length, get_or, take, drop, set, sym, refl, ap, ◌∙◌, append_assoc, append-nil, add-one, arith, drop_of_length-le, take_all, drop-cons, take-suc-set, le-ltb, lt-ltb, zero, take-suc}
 use lib.Seq.{paste, take-paste}
-use Rattle.laws.specs.Lists.{get_d_part}
-use Rattle.wire.specs.BigEndian.{be_at, bytes_of, length-bytes, be_same}
-use Rattle.sha1_hash.specs.Sha1.{ch, parity, maj, mix_of, const_of, words_of, extend, schedule, Five, five, listed, turn, rounds, added, compress, hash_blocks, digest_of}
+use Rattle.wire.specs.BigEndian.{be_at, bytes_of, length-bytes}
+use Rattle.sha1_hash.specs.Sha1.{ch, parity, maj, mix_of, const_of, words_of, schedule, five, listed, rounds, added, compress, digest_of}
+use Rattle.std.proofs.lemmas.List.{take_more_set, drop-set-lt}
+use Rattle.sha1_hash.specs.Window.{IsRound}
 
 -- sums of five words
 pub sum-five : (a b c d e : ℕ) → ((((a + b) % 2 ^ 32 + c) % 2 ^ 32 + d) % 2 ^ 32 + e) % 2 ^ 32 ≡ (a + b + c + d + e) % 2 ^ 32
@@ -11,15 +12,10 @@ sum-five a b c d e = omega arith
 
 -- ---- the schedule
 
--- a number of a part of a list
-be_part : (w : ℕ) (s : List ℕ) (at n k : ℕ) → k + w ≤ n → be_at w (take n (drop at s)) k ≡ be_at w s (at + k)
-be_part w s at n k h = be_same w (take n (drop at s)) s k (at + k) (λ m l. rw (add_assoc at k m) (get_d_part s at n (k + m) (omega arith)))
-
--- a word more of the block that starts at `at`
-pub words_more : (s w : List ℕ) (at t x : ℕ) → t < 16 → length w ≡ 16 → x ≡ be_at 4 s (at + t * 4) → take t w ≡ words_of t (take 64 (drop at s))
-    → take (t + 1) (set w t x) ≡ words_of (t + 1) (take 64 (drop at s))
+-- a word more of the block
+pub words_more : (m w : List ℕ) (t x : ℕ) → t < 16 → length w ≡ 16 → x ≡ be_at 4 m (t * 4) → take t w ≡ words_of t m → take (t + 1) (set w t x) ≡ words_of (t + 1) m
 unfolding words_of
-words_more s w at t x h l e g = rw (add-one t, take-suc-set w t x (omega arith), g, e, be_part 4 s at 64 (t * 4) (omega arith))
+words_more m w t x h l e g = rw (add-one t, take-suc-set w t x (omega arith), g, e)
 
 pub words_end : (w m : List ℕ) (t : ℕ) → 16 ≤ t → t ≤ 16 → length w ≡ 16 → take t w ≡ words_of t m → w ≡ words_of 16 m
 words_end w m t a b l g =
@@ -30,25 +26,21 @@ words_end w m t a b l g =
 
 -- the run of twenty rounds from `from` on takes the function f and the constant k
 pub record Run (from : ℕ) (f : ℕ → ℕ → ℕ → ℕ) (k : ℕ) : Type 0 where
-  pub even : from % 2 ≡ 0
-  pub end : from ≤ 60
   pub mix : (t : ℕ) → from ≤ t → t < from + 20 → mix_of t ≡ f
   pub const : (t : ℕ) → from ≤ t → t < from + 20 → const_of t ≡ k
 
 pub run_ch : Run 0 ch 0x5a82_7999
 unfolding mix_of const_of
-run_ch = record { even = refl; end = omega arith; mix = λ t p q. rw (lt-ltb t 20 q); const = λ t p q. rw (lt-ltb t 20 q) }
+run_ch = record { mix = λ t p q. rw (lt-ltb t 20 q); const = λ t p q. rw (lt-ltb t 20 q) }
 
 pub run_parity : Run 20 parity 0x6ed9_eba1
 unfolding mix_of const_of
-run_parity = record { even = refl; end = omega arith; mix = λ t p q. rw (le-ltb t 20 p, lt-ltb t 40 q); const = λ t p q. rw (le-ltb t 20 p, lt-ltb t 40 q) }
+run_parity = record { mix = λ t p q. rw (le-ltb t 20 p, lt-ltb t 40 q); const = λ t p q. rw (le-ltb t 20 p, lt-ltb t 40 q) }
 
 pub run_maj : Run 40 maj 0x8f1b_bcdc
 unfolding mix_of const_of
 run_maj =
     record {
-      even = refl;
-      end = omega arith;
       mix = λ t p q. rw (le-ltb t 20 (omega arith), le-ltb t 40 p, lt-ltb t 60 q);
       const = λ t p q. rw (le-ltb t 20 (omega arith), le-ltb t 40 p, lt-ltb t 60 q);
     }
@@ -57,8 +49,6 @@ pub run_last : Run 60 parity 0xca62_c1d6
 unfolding mix_of const_of
 run_last =
     record {
-      even = refl;
-      end = omega arith;
       mix = λ t p q. rw (le-ltb t 20 (omega arith), le-ltb t 40 (omega arith), le-ltb t 60 p);
       const = λ t p q. rw (le-ltb t 20 (omega arith), le-ltb t 40 (omega arith), le-ltb t 60 p);
     }
@@ -72,36 +62,46 @@ listed_five (a ∷ b ∷ c ∷ d ∷ []) l = absurd (omega arith)
 listed_five (a ∷ b ∷ c ∷ d ∷ e ∷ []) l = refl
 listed_five (a ∷ b ∷ c ∷ d ∷ e ∷ f ∷ v) l = absurd (omega arith)
 
--- a round more; all that are left, up to the eightieth, give `goal`
-pub round_more : (ws v : List ℕ) (goal : Five) (t : ℕ) {from : ℕ} {f : ℕ → ℕ → ℕ → ℕ} {k x e : ℕ} {y : List ℕ} → Run from f k → from ≤ t → t < from + 20
-    → t < 80 → e ≡ f (five v).b (five v).c (five v).d → x ≡ get_or ws t 0 → y ≡ listed (turn e k x (five v))
-    → rounds ws (80 - t) t (five v) ≡ goal → rounds ws (80 - (t + 1)) (t + 1) (five y) ≡ goal
-unfolding rounds
-round_more ws v goal t {from} {f} {k} {x} {e} {y} run low high small p q r g =
-    let n : 80 - t ≡ suc (80 - (t + 1)) = omega arith in
-    let s : five y ≡ turn (mix_of t (five v).b (five v).c (five v).d) (const_of t) (get_or ws t 0) (five v) =
-    rw (r, p, q, run.mix t low high, run.const t low high) in
-    rw s (rw n at g)
+-- a round of a run
+pub is_round : {answers : ℕ → ℕ → ℕ → ℕ → Type 0} {from : ℕ} {mix : ℕ → ℕ → ℕ → ℕ} {k : ℕ} → Run from mix k → ((b c d f : ℕ) → answers b c d f → f ≡ mix b c d)
+    → (t : ℕ) → from ≤ t → t < from + 20 → IsRound answers k t
+is_round run given t low high =
+    record { constant = run.const t low high; mixed = λ b c d f h. given b c d f h ∙ sym (ap (λ (mix : ℕ → ℕ → ℕ → ℕ). mix b c d) (run.mix t low high)) }
 
 -- ---- blocks
 
--- a block, of what the parts give
-pub compress_parts : (h m w v r : List ℕ) → w ≡ words_of 16 m → v ≡ listed (rounds (extend 64 w) 80 0 (five h)) → r ≡ added (five v) (five h) → r ≡ compress h m
-unfolding compress schedule
-compress_parts h m w v r e f g = rw (g, f, e)
+added_at : (v h : List ℕ) (i : ℕ) → i < 5 → get_or (added (five v) (five h)) i 0 ≡ (get_or v i 0 + get_or h i 0) % 2 ^ 32
+unfolding added
+added_at v h zero l = refl
+added_at v h (suc zero) l = refl
+added_at v h (suc (suc zero)) l = refl
+added_at v h (suc (suc (suc zero))) l = refl
+added_at v h (suc (suc (suc (suc zero)))) l = refl
+added_at v h (suc (suc (suc (suc (suc i))))) l = absurd (omega arith)
 
--- a block more
-pub blocks_more : (n i at : ℕ) (v x s r : List ℕ) → i < n → x ≡ compress v (take 64 (drop at s)) → hash_blocks (n - i) v (drop at s) ≡ r → hash_blocks (n - (i + 1)) x (drop (at + 64) s) ≡ r
-unfolding hash_blocks
-blocks_more n i at v x s r h e g =
-    let q : n - i ≡ suc (n - (i + 1)) = omega arith in
-    rw (e, ← drop-drop) (rw q at g)
+added_length : (v h : List ℕ) → length (added (five v) (five h)) ≡ 5
+unfolding added
+added_length v h = refl
 
-pub blocks_end : (n i at : ℕ) (v s r : List ℕ) → n ≤ i → hash_blocks (n - i) v (drop at s) ≡ r → v ≡ r
-unfolding hash_blocks
-blocks_end n i at v s r h g =
-    let q : n - i ≡ 0 = omega arith in
-    rw q at g
+-- a sum more
+pub sum_more : (v first h : List ℕ) (i x : ℕ) → i < 5 → length first ≡ 5 → length h ≡ 5 → x ≡ (get_or v i 0 + get_or h i 0) % 2 ^ 32
+    → take i h ≡ take i (added (five v) (five first)) → drop i h ≡ drop i first
+    → (take (i + 1) (set h i x) ≡ take (i + 1) (added (five v) (five first))) × (drop (i + 1) (set h i x) ≡ drop (i + 1) first)
+sum_more v first h i x small long_first long sum done left =
+    let all = added (five v) (five first) in
+    let rest : get_or h i 0 ∷ drop (suc i) h ≡ get_or first i 0 ∷ drop (suc i) first = sym (drop-cons h i 0 (omega arith)) ∙ left ∙ drop-cons first i 0 (omega arith) in
+    let same : get_or h i 0 ≡ get_or first i 0 = ap (λ (l : List ℕ). get_or l 0 0) rest in
+    let last : x ≡ get_or all i 0 = sum ∙ ap (λ (y : ℕ). (get_or v i 0 + y) % 2 ^ 32) same ∙ sym (added_at v first i small) in
+    let behind : drop (i + 1) h ≡ drop (i + 1) first = rw add-one (ap (drop 1) rest) in (
+      take_more_set h i x (omega arith) ∙ (λ k. done k ++ (last k ∷ [])) ∙ rw add-one (sym (take-suc all i 0 (omega (arith, added_length v first)))),
+      drop-set-lt (i + 1) h i x (omega arith) ∙ behind,
+    )
+
+pub compress_made : (h m v r : List ℕ) (i : ℕ) → v ≡ listed (rounds (schedule m) 80 0 (five h)) → i ≡ 5 → length r ≡ 5 → take i r ≡ take i (added (five v) (five h)) → r ≡ compress h m
+unfolding compress
+compress_made h m v r i e end long sums =
+    let all : take 5 r ≡ take 5 (added (five v) (five h)) = rw end at sums in
+    sym (take_all 5 r (omega arith)) ∙ all ∙ take_all 5 (added (five v) (five h)) (omega (arith, added_length v h)) ∙ rw e
 
 -- ---- the digest's bytes
 

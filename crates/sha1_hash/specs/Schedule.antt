@@ -16,7 +16,7 @@ unfolding words_of
 words_length zero m = refl
 words_length (suc n) m = rw (length-append, words_length n m) (omega arith)
 
-words_word : (n t : ℕ) (m : List ℕ) → t < n → slice_index (words_of n m) t ≡ be_at 4 m (t * 4)
+pub words_word : (n t : ℕ) (m : List ℕ) → t < n → slice_index (words_of n m) t ≡ be_at 4 m (t * 4)
 unfolding words_of
 words_word zero t m h = absurd (omega arith)
 words_word (suc n) t m h =

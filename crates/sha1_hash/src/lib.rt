@@ -3,19 +3,17 @@
 
 #![tactic(auto)]
 
-ghost use Rattle.std.specs.Prelude.{◌≡◌, ◌+◌, ◌-◌, ◌*◌, ◌%◌, ◌^◌, ◌<◌, ◌≤◌, [], ◌++◌, length, take, drop, replicate, bit_xor, slice_set};
-ghost use mathlib.Core.List.{flatten};
-ghost use Rattle.sha1_hash.specs.Sha1.{rotl, ch, parity, maj, words_of, next_word, extend, five, listed, turn, rounds, added, compress, hash_blocks, hash_all, digest_of, sha1};
+ghost use Rattle.std.specs.Prelude.{◌≡◌, ◌+◌, ◌<◌, ◌≤◌, List, ℕ, [], ◌++◌, length, take, slice_index};
+ghost use Rattle.std.specs.List.{fold};
+ghost use Rattle.sha1_hash.specs.Sha1.{ch, parity, maj, words_of, schedule, Five, five, listed, turn, added, compress, hash_blocks, hash_all, digest_of, sha1};
 ghost use Rattle.sha1_hash.specs.Pieces.{filled, digest_after, fed, finished};
+ghost use Rattle.sha1_hash.specs.Window.{Held, Before, IsRound};
 
 // The bytes of a block.
 const BLOCK: usize = 64;
 
 // The words of the schedule that are held at a time.
 const WINDOW: usize = 16;
-
-// 2^61: the bits of a message are counted modulo 2^64, its bytes modulo this.
-const BIT_COUNTS: u64 = 0x2000_0000_0000_0000;
 
 // The hash value of no blocks.
 const INITIAL: [u32; 5] = [
@@ -35,237 +33,145 @@ const K_MAJ: u32 = 0x8f1b_bcdc;
 
 const K_LAST: u32 = 0xca62_c1d6;
 
-// The word x, rotated left by n.
-fn rotl(x: u32, n: u32) -> u32
-    requires { (0 < n) × (n < 32) }
-    ensures { result ≡ rotl n x }
+// Where b has a one c's bit, else d's.
+fn ch(b: u32, c: u32, d: u32) -> u32
+    ensures { result ≡ ch b c d }
 {
-    (x << n) | (x >> (32 - n))
-}
-
-// Where b has a one c's bit, else d's. As the two below it takes the five variables a to e, and sees b, c and d.
-fn ch(v: [u32; 5]) -> u32
-    ensures { result ≡ ch (five v).b (five v).c (five v).d }
-{
-    (v[1] & v[2]) ^ (!v[1] & v[3])
+    (b & c) ^ (!b & d)
 }
 
 // The sum of the bits of b, c and d, modulo 2.
-fn parity(v: [u32; 5]) -> u32
-    ensures { result ≡ parity (five v).b (five v).c (five v).d }
+fn parity(b: u32, c: u32, d: u32) -> u32
+    ensures { result ≡ parity b c d }
 {
-    v[1] ^ v[2] ^ v[3]
+    b ^ c ^ d
 }
 
 // The bit that two of b, c and d have.
-fn maj(v: [u32; 5]) -> u32
-    ensures { result ≡ maj (five v).b (five v).c (five v).d }
+fn maj(b: u32, c: u32, d: u32) -> u32
+    ensures { result ≡ maj b c d }
 {
-    (v[1] & v[2]) ^ (v[1] & v[3]) ^ (v[2] & v[3])
+    (b & c) ^ (b & d) ^ (c & d)
 }
 
-// A word of the schedule, of four before it.
-fn blend(p: u32, q: u32, r: u32, s: u32) -> u32
-    ensures { result ≡ rotl 1 (bit_xor (bit_xor (bit_xor p q) r) s) }
+// The schedule's word t. The first sixteen are the block's, and each other is made of those 3, 8, 14 and 16 before it. Word t stands at t modulo 16, so it
+// takes the place of the last of these, for which no later word asks.
+fn word(w: &mut [u32; 16], t: usize) -> u32
+    requires { t < 80 }
+    ensures value { (m : List ℕ) → Held m w.old t → result ≡ slice_index (schedule m) t }
+    ensures window { (m : List ℕ) → Held m w.old t → Held m w.new (t + 1) }
 {
-    rotl(p ^ q ^ r ^ s, 1)
+    if WINDOW <= t {
+        w[t % WINDOW] = (w[(t + 13) % WINDOW]
+            ^ w[(t + 8) % WINDOW]
+            ^ w[(t + 2) % WINDOW]
+            ^ w[t % WINDOW]).rotate_left(1);
+    }
+    w[t % WINDOW]
 }
 
-// The schedule's word t, made of those 3, 8, 14 and 16 before it. Word t stands at t modulo 16, so it takes the place of the last of these, for which no later
-// word asks. The contract repeats the window, so that each word stands at its number: of the words before t only the last sixteen count.
-fn renew(w: &mut [u32; 16], t: usize) -> u32
-    requires { (length w.old ≡ 16) × ((16 ≤ t) × (t < 80)) }
-    ensures value { result ≡ next_word (take t (flatten (replicate 5 w.old))) }
-    ensures w_after { w.new ≡ slice_set w.old (t % 16) result }
+// The sixteen words of a block, with which the schedule begins.
+fn words(block: &[u8; 64]) -> [u32; 16]
+    ensures { result ≡ words_of 16 block.now }
 {
-    let x = blend(
-        w[(t + 13) % WINDOW],
-        w[(t + 8) % WINDOW],
-        w[(t + 2) % WINDOW],
-        w[t % WINDOW],
-    );
-    w[t % WINDOW] = x;
-    x
-}
-
-// The sixteen words of the block at `at`, with which the schedule begins.
-fn words(s: &[u8], at: usize) -> [u32; 16]
-    requires { at + 64 ≤ length s.now }
-    ensures { result ≡ words_of 16 (take 64 (drop at s.now)) }
-{
-    let mut w = [0u32; 16];
-    let mut t: usize = 0;
-    while t < WINDOW {
-        w[t] = wire::be32(s, at + t * 4);
-        t += 1;
+    let mut w = [0; 16];
+    for t in 0..WINDOW {
+        w[t] = wire::be32(block, t * 4);
     }
     w
 }
 
-// The first variable's next value.
-fn sum(a: u32, f: u32, e: u32, k: u32, w: u32) -> u32
-    ensures { result ≡ (rotl 5 a + f + e + k + w) % 2 ^ 32 }
+// A round, where the function of b, c and d gave f.
+fn turn(v: [u32; 5], f: u32, k: u32, word: u32) -> [u32; 5]
+    ensures { result ≡ listed (turn f k word (five v)) }
 {
-    let p = std::num::wrapping_add_u32(rotl(a, 5), f);
-    let q = std::num::wrapping_add_u32(p, e);
-    let r = std::num::wrapping_add_u32(q, k);
-    std::num::wrapping_add_u32(r, w)
+    let [a, b, c, d, e] = v;
+    let sum = a
+        .rotate_left(5)
+        .wrapping_add(f)
+        .wrapping_add(e)
+        .wrapping_add(k)
+        .wrapping_add(word);
+    [sum, a, b.rotate_left(30), c, d]
 }
 
-// A round, where the function of the variables gave f.
-fn turn(v: [u32; 5], f: u32, k: u32, w: u32) -> [u32; 5]
-    ensures { result ≡ listed (turn f k w (five v)) }
+// Round t, in which `mix` is the function of b, c and d, and k the constant.
+fn round<F: Fn(u32, u32, u32) -> u32>(
+    v: [u32; 5],
+    w: &mut [u32; 16],
+    t: usize,
+    mix: &F,
+    k: u32,
+) -> [u32; 5]
+    requires callable { F.IsAlwaysCallable mix.now }
+    requires small { t < 80 }
+    requires round { IsRound (F.post mix.now) k t }
+    ensures { (m : List ℕ) (goal : Five) → Before m goal v w.old t → Before m goal result w.new (t + 1) }
 {
-    [sum(v[0], f, v[4], k, w), v[0], rotl(v[1], 30), v[2], v[3]]
+    let f = mix(v[1], v[2], v[3]);
+    turn(v, f, k, word(w, t))
 }
 
-// All eighty rounds: sixteen with the words that the window has, and those of `rounds_ch`. Each run of rounds is a function with a fixed number of turns and
-// one caller: it is unrolled, and compiled into its caller, and the window need not go through memory.
-fn all_rounds(h: [u32; 5], w: &mut [u32; 16]) -> [u32; 5]
-    requires { length w.old ≡ 16 }
-    ensures { result ≡ listed (rounds (extend 64 w.old) 80 0 (five h)) }
+// The twenty rounds from FROM on. Each run has a fixed number of turns and one caller: it is unrolled, and compiled into its caller, and the window need not
+// go through memory. There are two rounds to a turn, since the compiler does not unroll twenty turns of this size: with one to a turn, hashing took 1.7 times
+// as long.
+fn run<F: Fn(u32, u32, u32) -> u32, const FROM: usize>(
+    h: [u32; 5],
+    w: &mut [u32; 16],
+    mix: F,
+    k: u32,
+) -> [u32; 5]
+    requires callable { F.IsAlwaysCallable mix }
+    requires small { FROM ≤ 60 }
+    requires rounds { (t : ℕ) → FROM ≤ t → t < FROM + 20 → IsRound (F.post mix) k t }
+    ensures { (m : List ℕ) (goal : Five) → Before m goal h w.old FROM → Before m goal result w.new (FROM + 20) }
 {
     let mut v = h;
-    let mut t: usize = 0;
-    while t < WINDOW {
-        let next = turn(v, ch(v), K_CH, w[t]);
+    for pair in 0..10 {
+        let t = FROM + 2 * pair;
+        // under names of their own: a round that is assigned to what it took gets no proof
+        let between = round(v, w, t, &mix, k);
+        let next = round(between, w, t + 1, &mix, k);
         v = next;
-        t += 1;
-    }
-    rounds_ch(v, w)
-}
-
-// The rounds from 16 on: four, each with a word renewed, and those of `rounds_parity`. There are two to a turn here and below, since the compiler does not
-// unroll twenty turns of this size.
-fn rounds_ch(h: [u32; 5], w: &mut [u32; 16]) -> [u32; 5]
-    requires { length w.old ≡ 16 }
-    ensures { result ≡ listed (rounds (extend 64 w.old) 64 16 (five h)) }
-{
-    let mut v = h;
-    let mut t: usize = 16;
-    while t < 20 {
-        let between = turn(v, ch(v), K_CH, renew(w, t));
-        let next = turn(between, ch(between), K_CH, renew(w, t + 1));
-        v = next;
-        t += 2;
-    }
-    rounds_parity(v, w)
-}
-
-// The rounds from 20 on: twenty, and those of `rounds_maj`.
-fn rounds_parity(h: [u32; 5], w: &mut [u32; 16]) -> [u32; 5]
-    requires { length w.old ≡ 16 }
-    ensures { result ≡ listed (rounds (extend 60 (take 20 (flatten (replicate 5 w.old)))) 60 20 (five h)) }
-{
-    let mut v = h;
-    let mut t: usize = 20;
-    while t < 40 {
-        let between = turn(v, parity(v), K_PARITY, renew(w, t));
-        let next = turn(between, parity(between), K_PARITY, renew(w, t + 1));
-        v = next;
-        t += 2;
-    }
-    rounds_maj(v, w)
-}
-
-// The rounds from 40 on: twenty, and those of `rounds_last`.
-fn rounds_maj(h: [u32; 5], w: &mut [u32; 16]) -> [u32; 5]
-    requires { length w.old ≡ 16 }
-    ensures { result ≡ listed (rounds (extend 40 (take 40 (flatten (replicate 5 w.old)))) 40 40 (five h)) }
-{
-    let mut v = h;
-    let mut t: usize = 40;
-    while t < 60 {
-        let between = turn(v, maj(v), K_MAJ, renew(w, t));
-        let next = turn(between, maj(between), K_MAJ, renew(w, t + 1));
-        v = next;
-        t += 2;
-    }
-    rounds_last(v, w)
-}
-
-// The rounds from 60 on.
-fn rounds_last(h: [u32; 5], w: &mut [u32; 16]) -> [u32; 5]
-    requires { length w.old ≡ 16 }
-    ensures { result ≡ listed (rounds (extend 20 (take 60 (flatten (replicate 5 w.old)))) 20 60 (five h)) }
-{
-    let mut v = h;
-    let mut t: usize = 60;
-    while t < 80 {
-        let between = turn(v, parity(v), K_LAST, renew(w, t));
-        let next = turn(between, parity(between), K_LAST, renew(w, t + 1));
-        v = next;
-        t += 2;
     }
     v
 }
 
-// Each word of v and h, added.
-fn sums(v: [u32; 5], h: [u32; 5]) -> [u32; 5]
-    ensures { result ≡ added (five v) (five h) }
+// Hashes a block more: h becomes the hash value after it.
+fn compress(h: &mut [u32; 5], block: &[u8; 64])
+    ensures { h.new ≡ compress h.old block.now }
 {
-    [
-        std::num::wrapping_add_u32(v[0], h[0]),
-        std::num::wrapping_add_u32(v[1], h[1]),
-        std::num::wrapping_add_u32(v[2], h[2]),
-        std::num::wrapping_add_u32(v[3], h[3]),
-        std::num::wrapping_add_u32(v[4], h[4]),
-    ]
-}
-
-// The hash value h after the block at `at`.
-fn compress(h: [u32; 5], s: &[u8], at: usize) -> [u32; 5]
-    requires { at + 64 ≤ length s.now }
-    ensures { result ≡ compress h (take 64 (drop at s.now)) }
-{
-    let mut w = words(s, at);
-    let v = all_rounds(h, &mut w);
-    sums(v, h)
-}
-
-// The hash value h after the n blocks from `from` on.
-fn blocks(h: [u32; 5], s: &[u8], from: usize, n: usize) -> [u32; 5]
-    requires { from + n * 64 ≤ length s.now }
-    ensures { result ≡ hash_blocks n h (drop from s.now) }
-{
-    let mut v = h;
-    let mut i: usize = 0;
-    let mut at = from;
-    while i < n {
-        let next = compress(v, s, at);
-        v = next;
-        at += BLOCK;
-        i += 1;
+    let mut w = words(block);
+    let v = run::<_, 0>(*h, &mut w, ch, K_CH);
+    let v = run::<_, 20>(v, &mut w, parity, K_PARITY);
+    let v = run::<_, 40>(v, &mut w, maj, K_MAJ);
+    let v = run::<_, 60>(v, &mut w, parity, K_LAST);
+    for i in 0..5 {
+        h[i] = v[i].wrapping_add(h[i]);
     }
-    v
 }
 
-// Puts m bytes of b from `from` on behind the n bytes with which the block begins, and zeros behind them.
-fn join(block: &mut [u8; 64], n: usize, b: &[u8], from: usize, m: usize)
-    requires block_len { (length block.old ≡ 64) × (n + m ≤ 64) }
-    requires m_in_bounds { from + m ≤ length b.now }
-    ensures { block.new ≡ filled (take n block.old ++ take m (drop from b.now)) }
+// The same for blocks that follow each other.
+fn compress_all(h: &mut [u32; 5], blocks: &[[u8; 64]])
+    ensures { h.new ≡ fold compress h.old blocks.now }
 {
-    let end = n + m;
-    slices::copy_bytes(b, from, m, block, n);
-    slices::clear(block, end, BLOCK - end);
-}
-
-// The hash value after the block that the bytes in use begin and the piece fills up. Where no byte is in use there is none. The block is used up by that.
-fn fill_up(h: [u32; 5], block: &mut [u8; 64], used: usize, piece: &[u8], room: usize) -> [u32; 5]
-    requires used_bound { (used < 64) × (room ≡ (64 - used) % 64) }
-    requires block_len { (length block.old ≡ 64) × (room ≤ length piece.now) }
-    ensures block_len_2 { length block.new ≡ 64 }
-    ensures value { result ≡ hash_all h (take used block.old ++ take room piece.now) }
-{
-    if used == 0 {
-        return h;
+    for block in blocks {
+        compress(h, block);
     }
-    join(block, used, piece, 0, room);
-    compress(h, block, 0)
 }
 
-// A digest so far: the hash value of the whole blocks, the bytes after them at the start of `block`, and the number of bytes, modulo 2^64.
+// Puts the piece behind the n bytes with which the block begins, and zeros behind it.
+fn join(block: &mut [u8; 64], n: usize, piece: &[u8])
+    requires { n + length piece.now ≤ 64 }
+    ensures { block.new ≡ filled (take n block.old ++ piece.now) }
+{
+    let end = n + piece.len();
+    block[n..end].copy_from_slice(piece);
+    block[end..].fill(0);
+}
+
+// A digest so far: the hash value of the whole blocks, the bytes after them at the start of `block`, and the number of bytes, modulo 2^64. Whatever a caller
+// puts into the public fields is a digest (`fed` and `finished` say of which state), so there is no invariant to state.
 #[derive(Drop)]
 pub struct Digest {
     pub h: [u32; 5],
@@ -285,50 +191,38 @@ impl Digest {
         }
     }
 
-    // The digest after one more piece.
-    pub fn feed(self, piece: &[u8]) -> Digest
+    // The digest after one more piece, which first fills up the block that is begun, if one is.
+    pub fn feed(mut self, piece: &[u8]) -> Digest
         ensures { result ≡ fed self piece.now }
     {
-        let n = piece.len();
-        let h = self.h;
-        let mut block = self.block;
-        let len = self.len;
-        let total = std::num::wrapping_add_u64(len, n as u64);
-        let used = (len % 64) as usize;
+        let used = self.len as usize % BLOCK;
         let room = (BLOCK - used) % BLOCK;
-        if n < room {
-            join(&mut block, used, piece, 0, n);
-            return Digest {
-                h,
-                block,
-                len: total,
-            };
+        self.len = self.len.wrapping_add(piece.len() as u64);
+        if piece.len() < room {
+            join(&mut self.block, used, piece);
+            return self;
         }
-        let first = fill_up(h, &mut block, used, piece, room);
-        let count = (n - room) / BLOCK;
-        let last = blocks(first, piece, room, count);
-        let at = room + count * BLOCK;
-        join(&mut block, 0, piece, at, n - at);
-        Digest {
-            h: last,
-            block,
-            len: total,
+        let (start, rest) = piece.split_at(room);
+        if used != 0 {
+            join(&mut self.block, used, start);
+            compress(&mut self.h, &self.block);
         }
+        let (blocks, tail) = rest.as_chunks();
+        compress_all(&mut self.h, blocks);
+        join(&mut self.block, 0, tail);
+        self
     }
 
-    // The digest's twenty bytes. The padding is one more piece: a one bit, zeros up to eight bytes before a block's end, and the number of bits.
+    // The digest's twenty bytes. The padding is one more piece: a one bit, zeros up to eight bytes before a block's end, and the number of bits in those eight.
     pub fn finish(self) -> [u8; 20]
         ensures { result ≡ finished self }
     {
-        let len = self.len;
-        let zeros = (119 - (len % 64) as usize) % BLOCK;
-        let bits = len % BIT_COUNTS * 8;
+        let zeros = (119 - self.len as usize % BLOCK) % BLOCK;
+        let bits = self.len.wrapping_mul(8);
         let mut pad = [0u8; 72];
         pad[0] = 128;
         wire::put64(&mut pad, zeros + 1, bits);
-        let done = self.feed(&pad[..zeros + 9]);
-        let h = done.h;
-        bytes_of(h)
+        bytes_of(self.feed(&pad[..zeros + 9]).h)
     }
 }
 
@@ -337,10 +231,8 @@ fn bytes_of(h: [u32; 5]) -> [u8; 20]
     ensures { result ≡ digest_of h }
 {
     let mut out = [0u8; 20];
-    let mut k: usize = 0;
-    while k < 5 {
+    for k in 0..5 {
         wire::put32(&mut out, k * 4, h[k]);
-        k += 1;
     }
     out
 }

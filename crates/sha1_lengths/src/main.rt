@@ -3,27 +3,16 @@
 
 #![tactic(auto)]
 
-// The descriptor of standard output.
-const STDOUT_FILENO: i32 = 1;
+use std::io::{self, Write};
 
 const LONGEST: usize = 200;
 
-// The longest message.
-fn message() -> [u8; 200] {
-    let mut s = [0u8; 200];
-    let mut i: usize = 0;
-    while i < LONGEST {
-        s[i] = ((i * 7 + 3) % 256) as u8;
-        i += 1;
+fn main(rt: HostRuntime) -> io::Result<()> {
+    let message: [u8; LONGEST] = std::array::from_fn(|i| ((i * 7 + 3) % 256) as u8);
+    let mut out = io::writer(&rt);
+    for n in 0..=LONGEST {
+        // what cannot be printed is left out
+        let _ = out.write_all(&show::hex_line(sha1_hash::sha1_of(&message[..n])));
     }
-    s
-}
-
-fn main() {
-    let s = message();
-    let mut n: usize = 0;
-    while n <= LONGEST {
-        io::write_all(STDOUT_FILENO, &show::hex_line(sha1_hash::sha1_of(&s[..n])));
-        n += 1;
-    }
+    Ok(())
 }

@@ -3,36 +3,23 @@
 
 #![tactic(auto)]
 
-ghost use Rattle.std.specs.Prelude.{◌≡◌, ◌<◌, ◌≤◌, replicate};
+ghost use Rattle.std.specs.Prelude.{◌≡◌, replicate};
 ghost use Rattle.sha1_hash.specs.Sha1.{sha1};
 
-use sha1_hash::Digest;
-
-// The descriptor of standard output.
-const STDOUT_FILENO: i32 = 1;
-
-fn write(id: [u8; 20]) {
-    io::write_all(STDOUT_FILENO, &show::hex_line(id));
-}
-
-// The lesser of two.
-fn min(x: usize, y: usize) -> usize
-    requires { (0 < x) × (0 < y) }
-    ensures { (0 < result) × ((result ≤ x) × (result ≤ y)) }
-{
-    if x < y { x } else { y }
-}
+use sha1_hash::{Digest, sha1_of};
+use std::io::{self, Write};
 
 // The digest of n bytes 'a', in pieces of 1 to 130 bytes.
 fn uneven(n: usize) -> [u8; 20]
     ensures { result ≡ sha1 (replicate n 97) }
 {
-    let a = [97u8; 130];
+    let a = [b'a'; 130];
     let mut d = Digest::new();
     let mut left = n;
     let mut size: usize = 1;
+    // the pieces change their size by turns: no range has such steps
     while 0 < left {
-        let part = min(left, size);
+        let part = left.min(size);
         let next = d.feed(&a[..part]);
         d = next;
         left -= part;
@@ -41,12 +28,20 @@ fn uneven(n: usize) -> [u8; 20]
     d.finish()
 }
 
-fn main() {
-    write(sha1_hash::sha1_of(b""));
-    write(sha1_hash::sha1_of(b"abc"));
-    write(sha1_hash::sha1_of(b"abcdbcdecdefdefgefghfghighijhijkijkljklmklmnlmnomnopnopq"));
-    write(sha1_hash::sha1_of(
-        b"abcdefghbcdefghicdefghijdefghijkefghijklfghijklmghijklmnhijklmnoijklmnopjklmnopqklmnopqrlmnopqrsmnopqrstnopqrstu",
-    ));
-    write(uneven(1000000));
+fn main(rt: HostRuntime) -> io::Result<()> {
+    let digests = [
+        sha1_of(b""),
+        sha1_of(b"abc"),
+        sha1_of(b"abcdbcdecdefdefgefghfghighijhijkijkljklmklmnlmnomnopnopq"),
+        sha1_of(
+            b"abcdefghbcdefghicdefghijdefghijkefghijklfghijklmghijklmnhijklmnoijklmnopjklmnopqklmnopqrlmnopqrsmnopqrstnopqrstu",
+        ),
+        uneven(1000000),
+    ];
+    let mut out = io::writer(&rt);
+    for digest in digests {
+        // what cannot be printed is left out
+        let _ = out.write_all(&show::hex_line(digest));
+    }
+    Ok(())
 }

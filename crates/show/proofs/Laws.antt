@@ -1,7 +1,7 @@
 -- The digits of a byte, and a turn of the loop of `hex_line`: the digits of the bytes so far stand at the start, and the rest of the line is as it was. Assumes nothing.
 use mathlib.Core.Path.{◌≡◌, refl, sym, ap, ◌∙◌}
 use mathlib.Core.List.{List, [], ◌∷◌, ◌++◌, append_assoc}
-use Prim.Native.Nat.{ℕ, suc, ◌+◌, ◌*◌, ◌/◌, ◌≤◌, ◌<◌}
+use Prim.Native.Nat.{ℕ, suc, ◌+◌, ◌*◌, ◌/◌, ◌<◌}
 use native.Mathlib.Numerals.{add-one}
 use native.Mathlib.Omega.{arith}
 use lib.ListN.{length, get_or, take, drop, set, replicate, length-append}
@@ -39,7 +39,5 @@ hex_more s w w₀ i a b h ls lw ea eb inv =
     ∙ sym (append_assoc (hex (take i s)) (a ∷ b ∷ []) (drop (suc (suc (i * 2))) w₀))
     ∙ (λ k. sym digits k ++ drop (sym two k) w₀)
 
-pub hex_end : (s w : List ℕ) (i : ℕ) → 20 ≤ i → i ≤ 20 → length s ≡ 20 → w ≡ hex (take i s) ++ drop (i * 2) (replicate 41 10) → w ≡ hex s ++ (10 ∷ [])
-hex_end s w i p q l inv =
-    let e : i ≡ 20 = omega arith in
-    (rw e at inv) ∙ ap (λ (t : List ℕ). hex t ++ (10 ∷ [])) (take_all 20 s (omega arith))
+pub hex_end : (s w : List ℕ) (i : ℕ) → length s ≡ 20 → i ≡ 20 → w ≡ hex (take i s) ++ drop (i * 2) (replicate 41 10) → w ≡ hex s ++ (10 ∷ [])
+hex_end s w i l e inv = (rw e at inv) ∙ ap (λ (t : List ℕ). hex t ++ (10 ∷ [])) (take_all 20 s (omega arith))

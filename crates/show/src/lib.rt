@@ -1,4 +1,4 @@
-// How the programs write what they show.
+// How the programs write what they show, into arrays: the library's formats write text to a writer, and `lines` has lent bytes.
 
 #![tactic(auto)]
 
@@ -28,12 +28,11 @@ pub fn hex_byte(x: u8) -> [u8; 2]
 pub fn hex_line(id: [u8; 20]) -> [u8; 41]
     ensures { result ≡ hex id ++ (10 ∷ []) }
 {
-    let mut line = [10u8; 41];
-    let mut i: usize = 0;
-    while i < 20 {
-        line[i * 2] = digit(id[i] / 16);
-        line[i * 2 + 1] = digit(id[i]);
-        i += 1;
+    let mut line = [b'\n'; 41];
+    for (i, byte) in id.iter().enumerate() {
+        let [upper, lower] = hex_byte(*byte);
+        line[i * 2] = upper;
+        line[i * 2 + 1] = lower;
     }
     line
 }

@@ -34,7 +34,7 @@ is_false false h = refl
 
 pick_true : (a b : Bool) → pick a b false ≡ true → (a ≡ true) × (b ≡ true)
 pick_true true b h = (refl, h)
-pick_true false b h = let z : ◌≡◌ {A = ℕ} 0 1 = cc in absurd (omega arith)
+pick_true false b h = cc
 
 module _ (names ns : List ℕ) (parent first used : ℕ) (d : Distinct names ns parent first used) where
   no_twin : (i j : ℕ) → first ≤ j → j < i → i < used → parent_at ns i ≡ parent → twin names ns parent i j ≡ false
@@ -180,8 +180,8 @@ before_true a b e = below_before a b (by (compared a b) e)
   where
     by : (c : Comparison) → is_below c ≡ true → c ≡ below
     by below e = refl
-    by equal e = let z : ◌≡◌ {A = ℕ} 0 1 = cc in absurd (omega arith)
-    by beyond e = let z : ◌≡◌ {A = ℕ} 0 1 = cc in absurd (omega arith)
+    by equal e = cc
+    by beyond e = cc
 
 git_true : (a b : List ℕ) → git_before (length a) (length b) (before a b) ≡ true → GitBefore a b
 unfolding git_before
@@ -189,7 +189,7 @@ git_true a b e = by (ltb (length a) (length b)) (ltb (length b) (length a)) refl
   where
     by : (t v : Bool) → ltb (length a) (length b) ≡ t → ltb (length b) (length a) ≡ v → pick t true (pick v false (before a b)) ≡ true → GitBefore a b
     by true v p q h = inl (ltb-true (length a) (length b) p)
-    by false true p q h = let z : ◌≡◌ {A = ℕ} 0 1 = cc in absurd (omega arith)
+    by false true p q h = cc
     by false false p q h = let l = ltb-false (length a) (length b) p in let m = ltb-false (length b) (length a) q in inr (omega (arith, l, m), before_true a b h)
 
 module _ (names ms : List ℕ) (me : ℕ) (so : Rising) (child : ℕ) where

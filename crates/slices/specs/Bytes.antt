@@ -1,8 +1,6 @@
 -- What the contracts of `src/` cite: whether two byte lists are equal, and the first NUL of a part. Assumes nothing.
-use Rattle.std.specs.Prelude.{ℕ, zero, suc, ◌+◌, ◌-◌, Bool, true, false, List, [], ◌∷◌, drop, eqb}
+use Rattle.std.specs.Prelude.{ℕ, zero, suc, ◌+◌, ◌-◌, Bool, true, false, List, [], ◌∷◌, drop, eqb, None, Option, Some}
 use Rattle.laws.specs.Pick.{pick}
-use Rattle.slices.specs.declared.Ends.{Ends}
-use Rattle.slices.specs.declared.Ends.TheVariants.{With, Never}
 
 unfoldable pub same_bytes : List ℕ → List ℕ → Bool
 same_bytes [] [] = true
@@ -11,10 +9,10 @@ same_bytes (x ∷ xs) [] = false
 same_bytes (x ∷ xs) (y ∷ ys) = pick (eqb x y) (same_bytes xs ys) false
 
 -- the first NUL among the first f bytes of l, the first of which is byte i of the file
-unfoldable pub nul_in : ℕ → List ℕ → ℕ → Ends
-nul_in zero l i = Never
-nul_in (suc f) [] i = Never
-nul_in (suc f) (c ∷ l) i = pick (eqb c 0) (With i) (nul_in f l (i + 1))
+unfoldable pub nul_in : ℕ → List ℕ → ℕ → Option ℕ
+nul_in zero l i = None
+nul_in (suc f) [] i = None
+nul_in (suc f) (c ∷ l) i = pick (eqb c 0) (Some i) (nul_in f l (i + 1))
 
-unfoldable pub nul_at : List ℕ → ℕ → ℕ → Ends
+unfoldable pub nul_at : List ℕ → ℕ → ℕ → Option ℕ
 nul_at s at end = nul_in (end - at) (drop at s) at

@@ -1,4 +1,4 @@
-// Bytes copied, zeroed, compared and searched, each by one loop. A contract of a copy is one paste: what stood at the place is replaced, and all else is as it was.
+// Bytes copied, zeroed, compared and searched by the library's methods. A contract of a copy is one paste: what stood at the place is replaced, and all else is as it was.
 
 #![tactic(auto)]
 
@@ -12,11 +12,7 @@ pub fn copy_bytes(src: &[u8], from: usize, n: usize, dst: &mut [u8], to: usize)
     requires n_in_bounds_2 { to + n ≤ length dst.old }
     ensures { dst.new ≡ paste dst.old to (drop from src.now) n }
 {
-    let mut j: usize = 0;
-    while j < n {
-        dst[to + j] = src[from + j];
-        j += 1;
-    }
+    dst[to..to + n].copy_from_slice(&src[from..from + n]);
 }
 
 // Copies n bytes of s from `from` on to `to` on, which lies behind them.
@@ -25,11 +21,7 @@ pub fn copy_within(s: &mut [u8], from: usize, n: usize, to: usize)
     requires n_in_bounds { to + n ≤ length s.old }
     ensures { s.new ≡ paste s.old to (drop from s.old) n }
 {
-    let mut j: usize = 0;
-    while j < n {
-        s[to + j] = s[from + j];
-        j += 1;
-    }
+    s.copy_within(from..from + n, to);
 }
 
 // Sets n bytes of d from `to` on to zero.
@@ -37,11 +29,7 @@ pub fn clear(d: &mut [u8], to: usize, n: usize)
     requires { to + n ≤ length d.old }
     ensures { d.new ≡ paste d.old to (replicate n 0) n }
 {
-    let mut j: usize = 0;
-    while j < n {
-        d[to + j] = 0;
-        j += 1;
-    }
+    d[to..to + n].fill(0);
 }
 
 // Whether the n bytes of a from i on are those of b from j on.
@@ -50,34 +38,17 @@ pub fn same(a: &[u8], i: usize, b: &[u8], j: usize, n: usize) -> bool
     requires n_in_bounds_2 { j + n ≤ length b.now }
     ensures { result ≡ same_bytes (take n (drop i a.now)) (take n (drop j b.now)) }
 {
-    let mut k: usize = 0;
-    while k < n {
-        if a[i + k] != b[j + k] {
-            return false;
-        }
-        k += 1;
-    }
-    true
-}
-
-// Where a text ends.
-#[derive(Drop)]
-pub enum Ends {
-    With(usize),
-    Never,
+    a[i..i + n] == b[j..j + n]
 }
 
 // The place of the first NUL from `at` on and before `end`.
-pub fn first_nul(s: &[u8], at: usize, end: usize) -> Ends
+pub fn first_nul(s: &[u8], at: usize, end: usize) -> Option<usize>
     requires { end ≤ length s.now }
     ensures { result ≡ nul_at s.now at end }
 {
-    let mut i = at;
-    while i < end {
-        if s[i] == 0 {
-            return Ends::With(i);
-        }
-        i += 1;
+    if end < at {
+        return None;
     }
-    Ends::Never
+    let n = s[at..end].iter().position(|b| *b == 0)?;
+    Some(at + n)
 }

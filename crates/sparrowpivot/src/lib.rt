@@ -5,7 +5,6 @@
 
 ghost use Rattle.std.specs.Prelude.{◌≡◌};
 ghost use Rattle.sha1_hash.specs.Sha1.{sha1};
-ghost use Rattle.refusal.specs.Bit.{bit};
 
 pub mod extensions;
 pub mod reading;
@@ -18,13 +17,4 @@ pub fn sparrowpivot_sha1(bytes: &[u8], out: &mut [u8; 20])
     ensures { out.new ≡ sha1 bytes.now }
 {
     *out = sha1_hash::sha1_of(bytes);
-}
-
-fn bit_of(b: bool) -> u64
-    ensures { result ≡ bit b }
-{
-    if b {
-        return 1;
-    }
-    0
 }

@@ -9,38 +9,26 @@ ghost use Rattle.file.specs.Read.{read_file};
 ghost use Rattle.sparrowpivot.specs.Told.{told, eight};
 ghost use Rattle.sparrowpivot.specs.Reading.{begin, tell_read, tell_entries};
 
-use decode::entries::{Answer as Ran, Before};
-use file::Answer;
+use decode::entries::{Before, Error as RunError};
+use file::{Error, Reading};
 use wire::{FileAt, PathAt};
 
 // What was read, or what a refusal carries.
-fn read_values(a: Answer) -> [u64; 8]
+fn read_values(a: Result<Reading, Error>) -> [u64; 8]
     ensures { result ≡ eight (carried_of a) }
 {
-    let first = file::carried(a);
     match a {
-        Answer::Read {
-            version,
-            sparse,
-            tree,
-            records,
-            path_bytes,
-            nodes,
-        } => {
-            let mark = super::bit_of(sparse);
-            let grown = super::bit_of(tree);
-            [
-                version as u64,
-                mark,
-                grown,
-                records as u64,
-                path_bytes as u64,
-                nodes as u64,
-                0,
-                0,
-            ]
-        }
-        _ => [first, 0, 0, 0, 0, 0, 0, 0],
+        Ok(read) => [
+            read.version as u64,
+            read.sparse as u64,
+            read.tree.is_some() as u64,
+            read.records as u64,
+            read.path_bytes as u64,
+            read.tree.unwrap_or(0) as u64,
+            0,
+            0,
+        ],
+        Err(_) => [file::carried(a).unwrap_or(0), 0, 0, 0, 0, 0, 0, 0],
     }
 }
 
@@ -76,11 +64,10 @@ pub fn sparrowpivot_entries(
         ≡ tell_entries
         (read_entries id_size file.now (file_at (length file.now - id_size)) version count 0 (file_at header_size) begin records.old paths.old) }
 {
-    let end = sums::saturating_sub(file.len(), format::ID_SIZE);
+    let end = file.len().saturating_sub(format::ID_SIZE);
     let before = Before {
         used: PathAt(0),
-        first: true,
-        length: 0,
+        path: None,
     };
     let a = decode::entries::read_entries(
         file,
@@ -94,18 +81,16 @@ pub fn sparrowpivot_entries(
         paths,
     );
     match a {
-        Ran::Done { next, used, sparse } => {
-            let mark = super::bit_of(sparse);
-            let n = next.0;
-            let u = used.0;
-            *values = [n as u64, u as u64, mark, 0, 0, 0, 0, 0];
+        Ok(run) => {
+            let end = run.next.0 as u64;
+            *values = [end, run.used.0 as u64, run.sparse as u64, 0, 0, 0, 0, 0];
             0
         }
-        Ran::NotSpelled(k) => {
+        Err(RunError::NotSpelled(k)) => {
             *values = [k as u64, 0, 0, 0, 0, 0, 0, 0];
             refusal::NOT_SPELLED
         }
-        Ran::NoRoom(k) => {
+        Err(RunError::NoRoom(k)) => {
             *values = [k as u64, 0, 0, 0, 0, 0, 0, 0];
             refusal::NO_ENTRY_ROOM
         }

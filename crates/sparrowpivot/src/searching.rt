@@ -6,8 +6,8 @@ ghost use Rattle.access.specs.Verify.{verify_at};
 ghost use Rattle.sparrowpivot.specs.Told.{told};
 ghost use Rattle.sparrowpivot.specs.Searching.{tell_found, tell_verified};
 
-use access::Found;
-use access::verify::Verified;
+use access::verify::Error as Disorder;
+use access::{Error, Found};
 
 // The record that has this path and stage. 0: 1 if there is one, its index, and how many records were compared; 11: nothing; 12: the index of the record.
 pub fn sparrowpivot_lookup(
@@ -21,19 +21,19 @@ pub fn sparrowpivot_lookup(
 {
     let a = access::lookup(records, paths, key, stage);
     match a {
-        Found::At { index, compared } => {
+        Ok(Found::At { index, compared }) => {
             *values = [1, index as u64, compared as u64, 0, 0, 0, 0, 0];
             0
         }
-        Found::Absent { compared } => {
+        Ok(Found::Absent { compared }) => {
             *values = [0, 0, compared as u64, 0, 0, 0, 0, 0];
             0
         }
-        Found::NoStage => {
-            *values = [0, 0, 0, 0, 0, 0, 0, 0];
+        Err(Error::NoStage) => {
+            *values = [0; 8];
             refusal::NO_STAGE
         }
-        Found::PathOutside(i) => {
+        Err(Error::PathOutside(i)) => {
             *values = [i as u64, 0, 0, 0, 0, 0, 0, 0];
             refusal::PATH_OUTSIDE
         }
@@ -46,15 +46,15 @@ pub fn sparrowpivot_check_order(records: &[u8], paths: &[u8], values: &mut [u64;
 {
     let a = access::verify::verify_entries(records, paths);
     match a {
-        Verified::Sorted => {
-            *values = [0, 0, 0, 0, 0, 0, 0, 0];
+        Ok(()) => {
+            *values = [0; 8];
             0
         }
-        Verified::PathOutside(i) => {
+        Err(Disorder::PathOutside(i)) => {
             *values = [i as u64, 0, 0, 0, 0, 0, 0, 0];
             refusal::PATH_OUTSIDE
         }
-        Verified::NotAfter(i) => {
+        Err(Disorder::NotAfter(i)) => {
             *values = [i as u64, 0, 0, 0, 0, 0, 0, 0];
             refusal::NOT_AFTER
         }

@@ -17,9 +17,7 @@ pub fn sparrowpivot_record(records: &[u8], paths: &[u8], i: usize, values: &mut 
     let start = entry::path_start_at(records, i);
     let end = entry::path_end_at(records, i);
     let lies = entry::lies_inside(records, paths, i);
-    let inside = super::bit_of(lies);
     let n = entry::records_in(records);
-    let there = super::bit_of(i < n);
     let stat = entry::stat::stat_at(records, i);
     *values = [
         mode as u64,
@@ -27,8 +25,8 @@ pub fn sparrowpivot_record(records: &[u8], paths: &[u8], i: usize, values: &mut 
         stage as u64,
         start,
         end,
-        inside,
-        there,
+        lies as u64,
+        (i < n) as u64,
         stat.size as u64,
     ];
     0
@@ -74,14 +72,13 @@ pub fn sparrowpivot_node(nodes: &[u8], i: usize, values: &mut [u64; 8]) -> u32
     let subtrees = node::subtrees(nodes, i);
     let parent = node::parent(nodes, i);
     let n = node::nodes_in(nodes);
-    let there = super::bit_of(i < n);
     *values = [
         start as u64,
         end as u64,
         count,
         subtrees,
         parent,
-        there,
+        (i < n) as u64,
         0,
         0,
     ];

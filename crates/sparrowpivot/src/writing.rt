@@ -7,7 +7,7 @@ ghost use Rattle.write.specs.File.{write_all};
 ghost use Rattle.sparrowpivot.specs.Told.{told};
 ghost use Rattle.sparrowpivot.specs.Writing.{options_from, tell_write};
 
-use write::{Answer, Options};
+use write::{Error, Options, Written};
 
 // What the five low bits of a number ask for, in the order of the fields.
 fn options_from(options: u32) -> Options
@@ -40,23 +40,23 @@ pub fn sparrowpivot_write(
     let o = options_from(options);
     let a = write::write_to(records, paths, nodes, names, o, out);
     match a {
-        Answer::Done { version, size } => {
+        Ok(Written { version, size }) => {
             *values = [version as u64, size as u64, 0, 0, 0, 0, 0, 0];
             0
         }
-        Answer::PathOutside { index } => {
+        Err(Error::PathOutside { index }) => {
             *values = [index as u64, 0, 0, 0, 0, 0, 0, 0];
             refusal::PATH_OUTSIDE
         }
-        Answer::NotProper => {
-            *values = [0, 0, 0, 0, 0, 0, 0, 0];
+        Err(Error::NotProper) => {
+            *values = [0; 8];
             refusal::NOT_PROPER
         }
-        Answer::TooLarge => {
-            *values = [0, 0, 0, 0, 0, 0, 0, 0];
+        Err(Error::TooLarge) => {
+            *values = [0; 8];
             refusal::TOO_LARGE
         }
-        Answer::ShortOutput { size } => {
+        Err(Error::ShortOutput { size }) => {
             *values = [size as u64, 0, 0, 0, 0, 0, 0, 0];
             refusal::SHORT_OUTPUT
         }

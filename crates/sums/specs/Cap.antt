@@ -1,5 +1,5 @@
 -- A size of 64 bits, and the laws of sums that stop at the largest (01, What must change shape: sizing, then filling). Assumes nothing.
-use Rattle.std.specs.Prelude.{◌≡◌, ℕ, ◌+◌, ◌-◌, ◌≤◌, ◌<◌, ltb}
+use Rattle.std.specs.Prelude.{◌≡◌, ℕ, ◌+◌, ◌-◌, ◌≤◌, ◌<◌, ltb, min}
 use Rattle.std.proofs.Common.{sym, ap, ◌∙◌, ⊎_elim, arith, lt-ltb, le-ltb}
 use Rattle.laws.specs.Pick.{pick}
 use Rattle.laws.specs.Tests.{lt_or_ge}
@@ -45,8 +45,14 @@ cap_cap_right a b =
     let q : b + a ≡ a + b = omega arith in
     ap cap p ∙ cap_cap b a ∙ ap cap q
 
--- ---- turns of the code
+-- the smaller of a sum and the largest number, as the library's method gives it, is the capped sum
+pub cap_min : (n : ℕ) → min n largest ≡ cap n
+cap_min n = ⊎_elim (λ h. omega (arith, cap_over n h)) (λ h. omega (arith, cap_fits n h)) (lt_or_ge largest n)
 
+pub min_cap : (n r : ℕ) → r ≡ min n largest → r ≡ cap n
+min_cap n r e = e ∙ cap_min n
+
+-- a sum by cases: whether the second number fits beside the first
 pub add_over : (a b : ℕ) → a ≤ largest → largest - a < b → largest ≡ cap (a + b)
 add_over a b k h = sym (cap_over (a + b) (omega arith))
 

@@ -1,14 +1,12 @@
 -- What the reading of a node leaves as it was: the store's length, every byte of the nodes before it and, where it is read, every byte behind the nodes used. The nodes used grow, and never past the store. By induction
 -- on the depth, over the id's length. Assumes nothing.
-use Rattle.std.specs.Prelude.{Bool, true, false, ◌≡◌, refl, List, ℕ, zero, suc, ◌+◌, ◌*◌, ◌-◌, ◌/◌, ◌^◌, ◌≤◌, ◌<◌, length, get_or}
+use Rattle.std.specs.Prelude.{Bool, true, false, ◌≡◌, refl, List, ℕ, zero, suc, ◌+◌, ◌*◌, ◌-◌, ◌/◌, ◌^◌, ◌≤◌, ◌<◌, length, get_or, Err, None, Ok, Option, Result, Some}
 use Rattle.std.proofs.Common.{ap, ◌∙◌, arith, lit≤}
 use Rattle.std.proofs.Math.Seq.{paste}
 use Rattle.laws.specs.Paste.{get_d_after}
 use Rattle.laws.specs.Pick.{pick}
 use Rattle.laws.specs.Tests.{AtMost, at_most, above, at_most?}
 use Rattle.node.specs.declared.Node.{Node}
-use Rattle.node.specs.declared.Head.{Head}
-use Rattle.node.specs.declared.Head.TheVariants.{Is, Nothing}
 use Rattle.node.specs.Head.{head_at}
 use Rattle.wire.specs.BigEndian.{be_at}
 use Rattle.node.specs.Store.{put_at, node_of, word_at, name_start_at, name_end_at, count_at, subtrees_at, parent_at}
@@ -17,38 +15,41 @@ use Rattle.node.specs.Laws.{length_node, length-put, byte_before, put_is, word_p
 use Rattle.siblings.specs.Siblings.{siblings_differ}
 use Rattle.tree.specs.declared.Fault.{Fault}
 use Rattle.tree.specs.declared.Fault.TheVariants.{Unspelled, Deep, Full}
-use Rattle.tree.specs.declared.Step.TheVariants.{Read, Stops}
 use Rattle.tree.specs.Tree.{Out, and_then, kids, settled_as, body, node_at}
+use Rattle.node.specs.declared.Node.{Node}
+use Rattle.tree.specs.Made.{read_up_to}
+use Rattle.tree.specs.declared.Read.{Read}
 
 -- an outcome o from `used` nodes in the store ns, that uses at least `least`
 pub record Kept (used least : ℕ) (ns : List ℕ) (o : Out) : Type 0 where
   pub long : length o.1 ≡ length ns
   pub low : (k : ℕ) → k < used * 72 → get_or o.1 k 0 ≡ get_or ns k 0
-  pub high : (n u : ℕ) → o.0 ≡ Read n u → (k : ℕ) → u * 72 ≤ k → get_or o.1 k 0 ≡ get_or ns k 0
-  pub onward : (n u : ℕ) → o.0 ≡ Read n u → least ≤ u
-  pub room : (n u : ℕ) → o.0 ≡ Read n u → used ≤ length ns / 72 → u ≤ length ns / 72
+  pub high : (n u : ℕ) → o.0 ≡ Ok (read_up_to n u) → (k : ℕ) → u * 72 ≤ k → get_or o.1 k 0 ≡ get_or ns k 0
+  pub onward : (n u : ℕ) → o.0 ≡ Ok (read_up_to n u) → least ≤ u
+  pub room : (n u : ℕ) → o.0 ≡ Ok (read_up_to n u) → used ≤ length ns / 72 → u ≤ length ns / 72
 
-pub not_read : (f : Fault) (n u : ℕ) → Stops f ≡ Read n u → ⊥
-not_read f n u e = let z : ◌≡◌ {A = ℕ} 0 1 = cc in omega arith
+pub not_read : (f : Fault) (n u : ℕ) → ◌≡◌ {A = Result Read Fault} (Err f) (Ok (read_up_to n u)) → ⊥
+not_read f n u e = cc
 
-pub read_used : (n u m v : ℕ) → Read n u ≡ Read m v → u ≡ v
-read_used n u m v e = cc
+-- what two equal readings say of the nodes used
+pub read_used : (n u m v : ℕ) → ◌≡◌ {A = Result Read Fault} (Ok (read_up_to n u)) (Ok (read_up_to m v)) → u ≡ v
+read_used n u m v e = let same : read_up_to n u ≡ read_up_to m v = cc in ap (λ (r : Read). r.used) same
 
-stopped : (used least : ℕ) (ns : List ℕ) (f : Fault) → Kept used least ns (Stops f, ns)
-stopped used least ns f = record { long = refl; low = λ k h. refl; high = λ n u e. absurd (not_read f n u e); onward = λ n u e. absurd (not_read f n u e); room = λ n u e h. absurd (not_read f n u e) }
+stopped : (used least : ℕ) (ns : List ℕ) (f : Fault) → Kept used least ns (Err f, ns)
+stopped used least ns f = record { long = refl; low = λ k h. refl; high = λ n u e. cc; onward = λ n u e. cc; room = λ n u e h. cc }
 
 -- an outcome that is kept, and then what goes on from it
 pub then_kept : (used least : ℕ) (ns : List ℕ) (o : Out) (k : ℕ → ℕ → List ℕ → Out) → used ≤ least → Kept used least ns o → ((n u : ℕ) (ms : List ℕ) → Kept u u ms (k n u ms)) → Kept used least ns (and_then o k)
-then_kept used least ns (Read n u, ms) k h a b =
+then_kept used least ns (Ok r, ms) k h a b =
     let long : length ms ≡ length ns = a.long in
     record {
-      long = (b n u ms).long ∙ a.long;
-      low = λ i l. (b n u ms).low i (omega (arith, a.onward n u refl)) ∙ a.low i l;
-      high = λ m v e i l. (b n u ms).high m v e i l ∙ a.high n u refl i (omega (arith, (b n u ms).onward m v e));
-      onward = λ m v e. omega (arith, a.onward n u refl, (b n u ms).onward m v e);
-      room = λ m v e l. let q : u ≤ length ms / 72 = rw long (a.room n u refl l) in rw long at ((b n u ms).room m v e q);
+      long = (b r.next r.used ms).long ∙ a.long;
+      low = λ i l. (b r.next r.used ms).low i (omega (arith, a.onward r.next r.used refl)) ∙ a.low i l;
+      high = λ m v e i l. (b r.next r.used ms).high m v e i l ∙ a.high r.next r.used refl i (omega (arith, (b r.next r.used ms).onward m v e));
+      onward = λ m v e. omega (arith, a.onward r.next r.used refl, (b r.next r.used ms).onward m v e);
+      room = λ m v e l. let q : r.used ≤ length ms / 72 = rw long (a.room r.next r.used refl l) in rw long at ((b r.next r.used ms).room m v e q);
     }
-then_kept used least ns (Stops f, ms) k h a b = record { long = a.long; low = a.low; high = a.high; onward = a.onward; room = a.room }
+then_kept used least ns (Err f, ms) k h a b = record { long = a.long; low = a.low; high = a.high; onward = a.onward; room = a.room }
 
 pub kids_kept : (f : ℕ → ℕ → List ℕ → Out) → ((at used : ℕ) (ns : List ℕ) → Kept used (used + 1) ns (f at used ns)) → (l at used : ℕ) (ns : List ℕ) → Kept used used ns (kids f l at used ns)
 unfolding kids
@@ -58,13 +59,13 @@ kids_kept f a (suc l) at used ns = then_kept used used ns (f at used ns) (kids f
     weaker : Kept used used ns (f at used ns)
     weaker = let k = a at used ns in record { long = k.long; low = k.low; high = k.high; onward = λ n u e. omega (arith, k.onward n u e); room = k.room }
 
-pub settled_used : (s : List ℕ) (me next used : ℕ) (ns : List ℕ) (n u : ℕ) → settled_as s ns me next used ≡ Read n u → used ≡ u
+pub settled_used : (s : List ℕ) (me next used : ℕ) (ns : List ℕ) (n u : ℕ) → settled_as s ns me next used ≡ Ok (read_up_to n u) → used ≡ u
 unfolding settled_as
 settled_used s me next used ns n u = by (siblings_differ s ns me (me + 1) used)
   where
-    by : (t : Bool) → pick t (Read next used) (Stops Unspelled) ≡ Read n u → used ≡ u
+    by : (t : Bool) → pick t (Ok (read_up_to next used)) (Err Unspelled) ≡ Ok (read_up_to n u) → used ≡ u
     by true e = read_used next used n u e
-    by false e = absurd (not_read Unspelled n u e)
+    by false e = cc
 
 pub settled_kept : (s : List ℕ) (me next used : ℕ) (ns : List ℕ) → Kept used used ns (settled_as s ns me next used, ns)
 settled_kept s me next used ns =
@@ -77,7 +78,7 @@ settled_kept s me next used ns =
     }
 
 -- a node that is put, from a head that was read
-module _ (idLength : ℕ) (fits : idLength ≤ 32) (s : List ℕ) (at end : ℕ) (n : Node) (parent : ℕ) (ns : List ℕ) (used : ℕ) (h : used < length ns / 72) (q : head_at idLength s at end ≡ Is n) where
+module _ (idLength : ℕ) (fits : idLength ≤ 32) (s : List ℕ) (at end : ℕ) (n : Node) (parent : ℕ) (ns : List ℕ) (used : ℕ) (h : used < length ns / 72) (q : head_at idLength s at end ≡ Some n) where
   pub spelled : Spelled idLength s at end n
   spelled = head_spelled idLength s at end n q
 
@@ -105,7 +106,7 @@ module _ (idLength : ℕ) (fits : idLength ≤ 32) (s : List ℕ) (at end : ℕ)
   pub put_high : (k : ℕ) → (used + 1) * 72 ≤ k → get_or (put_at s n parent ns used) k 0 ≡ get_or ns k 0
   put_high k l = ap (λ (x : List ℕ). get_or x k 0) put_paste ∙ get_d_after ns (used * 72) (node_of s n parent) 72 k (omega arith) (omega (arith, full)) (omega arith)
 
-module _ (idLength : ℕ) (fits : idLength ≤ 32) (s : List ℕ) (at end : ℕ) (n : Node) (parent : ℕ) (ns : List ℕ) (used : ℕ) (h : used < length ns / 72) (q : head_at idLength s at end ≡ Is n) where
+module _ (idLength : ℕ) (fits : idLength ≤ 32) (s : List ℕ) (at end : ℕ) (n : Node) (parent : ℕ) (ns : List ℕ) (used : ℕ) (h : used < length ns / 72) (q : head_at idLength s at end ≡ Some n) where
   word_of : (k : ℕ) → k + 8 ≤ 72 → word_at k (put_at s n parent ns used) used ≡ be_at 8 (node_of s n parent) k
   word_of k l =
       ap (λ (x : List ℕ). word_at k x used) (put_paste idLength fits s at end n parent ns used h q)
@@ -137,9 +138,9 @@ module _ (idLength : ℕ) (fits : idLength ≤ 32) (s : List ℕ) (at end : ℕ)
   put_parent l = word_of 32 (lit≤ tt) ∙ parent_found s n parent t m i l
 
 body_kept : (idLength : ℕ) → idLength ≤ 32 → (s : List ℕ) (at end : ℕ) (rec : ℕ → ℕ → ℕ → List ℕ → Out) → ((parent at used : ℕ) (ns : List ℕ) → Kept used (used + 1) ns (rec parent at used ns))
-    → (parent used : ℕ) (ns : List ℕ) → used < length ns / 72 → (h : Head) → head_at idLength s at end ≡ h → Kept used (used + 1) ns (body s rec parent used ns h)
-body_kept idLength fits s at end rec a parent used ns l Nothing q = stopped used (used + 1) ns Unspelled
-body_kept idLength fits s at end rec a parent used ns l (Is n) q =
+    → (parent used : ℕ) (ns : List ℕ) → used < length ns / 72 → (h : Option Node) → head_at idLength s at end ≡ h → Kept used (used + 1) ns (body s rec parent used ns h)
+body_kept idLength fits s at end rec a parent used ns l None q = stopped used (used + 1) ns Unspelled
+body_kept idLength fits s at end rec a parent used ns l (Some n) q =
     then_kept used (used + 1) ns (kids (rec used) n.subtrees n.next (used + 1) (put_at s n parent ns used)) (λ m v ms. (settled_as s ms used m v, ms)) (omega arith) walked
     (λ m v ms. settled_kept s used m v ms)
   where
@@ -162,7 +163,7 @@ node_kept idLength fits s end zero parent at used ns = stopped used (used + 1) n
 node_kept idLength fits s end (suc d) parent at used ns = by (node_at idLength s end d) (λ p a u ms. node_kept idLength fits s end d p a u ms) (at_most? (length ns / 72) used)
   where
     by : (rec : ℕ → ℕ → ℕ → List ℕ → Out) → ((p a u : ℕ) (ms : List ℕ) → Kept u (u + 1) ms (rec p a u ms)) → {t : Bool} → AtMost (length ns / 72) used t
-        → Kept used (used + 1) ns (pick t (Stops Full, ns) (body s rec parent used ns (head_at idLength s at end)))
+        → Kept used (used + 1) ns (pick t (Err Full, ns) (body s rec parent used ns (head_at idLength s at end)))
     by rec a (at_most h) = stopped used (used + 1) ns Full
     by rec a (above h) = body_kept idLength fits s at end rec a parent used ns h (head_at idLength s at end) refl
 

@@ -7,3 +7,4 @@ pub mod Tally
 pub mod Walked
 pub mod Stored
 pub mod Marked
+pub mod Made

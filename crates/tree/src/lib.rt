@@ -4,17 +4,16 @@
 #![tactic(auto)]
 
 ghost use Rattle.std.specs.Prelude.{◌≡◌};
-ghost use Rattle.tree.specs.declared.Step.TheVariants.{Read};
+ghost use Rattle.tree.specs.Made.{read_up_to};
 ghost use Rattle.tree.specs.Tree.{node_at, settled, root_at, read_tree, answer_of, number_of};
 ghost use Rattle.siblings.specs.InOrder.{SoFar};
 ghost use Rattle.link_sort.specs.Folder.{Folder};
 ghost use Rattle.format.specs.Format.{depth_limit, id_size};
 
-use node::Head;
 use siblings::Rising;
 
 // Why a walk stops.
-#[derive(Drop)]
+#[derive(Clone, Copy)]
 pub enum Fault {
     Unspelled,
     Deep,
@@ -22,46 +21,45 @@ pub enum Fault {
 }
 
 // A node with all its subtrees: where it ends in the file, and the nodes used after it.
-#[derive(Drop)]
-pub enum Step {
-    Read { next: usize, used: usize },
-    Stops(Fault),
+#[derive(Clone, Copy)]
+pub struct Read {
+    pub next: usize,
+    pub used: usize,
 }
 
-// A tree, with how many nodes it has; or none.
-#[derive(Drop)]
-pub enum TreeAnswer {
-    Tree(usize),
-    Malformed,
+// Why a tree is refused. One that is malformed is not: there is none then.
+#[derive(Clone, Copy)]
+pub enum Error {
     TooDeep,
     NoRoom,
 }
 
 // A node whose last subtree is done: a name that two of its children have spoils the tree. Children that are in order need no search; others are sorted, by links in
 // the node store, which is at the end as it was.
-fn settle(file: &[u8], nodes: &mut [u8], me: usize, next: usize, used: usize, so: Rising) -> Step
+#[tactic(auto, using(crate::proofs::Laws::settles))]
+fn settle(
+    file: &[u8],
+    nodes: &mut [u8],
+    me: usize,
+    next: usize,
+    used: usize,
+    so: Rising,
+) -> Result<Read, Fault>
     requires so_far { SoFar file.now nodes.old me used so }
     requires folder { Folder nodes.old me used so.last }
-    ensures { (result, nodes.new) ≡ settled file.now me (Read next used, nodes.old) }
+    ensures { (result, nodes.new) ≡ settled file.now me (Ok (read_up_to next used), nodes.old) }
 {
-    let bytes = so.bytes;
-    let git = so.git;
-    if bytes {
-        return Step::Read { next, used };
+    if so.bytes || so.git {
+        return Ok(Read { next, used });
     }
-    if git {
-        return Step::Read { next, used };
+    if !link_sort::differ(file, nodes, me, so.last) {
+        return Err(Fault::Unspelled);
     }
-    let last = so.last;
-    let differ = link_sort::differ(file, nodes, me, last);
-    if differ {
-        Step::Read { next, used }
-    } else {
-        Step::Stops(Fault::Unspelled)
-    }
+    Ok(Read { next, used })
 }
 
 // Reads the node at `at` as node number `used`, and then each of its subtrees by calling itself, one level down.
+#[tactic(auto, using(crate::proofs::Laws::walks))]
 fn one_recursive(
     file: &[u8],
     at: usize,
@@ -70,58 +68,43 @@ fn one_recursive(
     used: usize,
     parent: u64,
     depth: usize,
-) -> Step
+) -> Result<Read, Fault>
     ensures { (result, nodes.new) ≡ node_at id_size file.now end depth parent at used nodes.old }
 {
     if depth == 0 {
-        return Step::Stops(Fault::Deep);
+        return Err(Fault::Deep);
     }
     if nodes.len() / node::NODE_SIZE <= used {
-        return Step::Stops(Fault::Full);
+        return Err(Fault::Full);
     }
-    let h = node::node_head(file, at, end);
-    match h {
-        Head::Nothing => Step::Stops(Fault::Unspelled),
-        Head::Is(n) => {
-            node::put_node(file, n, parent, nodes, used);
-            let below = depth - 1;
-            let mut next = n.next;
-            let mut have = used + 1;
-            let mut left = n.subtrees;
-            let mut so = Rising {
-                last: used,
-                bytes: true,
-                git: true,
-            };
-            while 0 < left {
-                let a = one_recursive(file, next, end, nodes, have, used as u64, below);
-                match a {
-                    Step::Stops(f) => return Step::Stops(f),
-                    Step::Read { next: n, used: u } => {
-                        let more = siblings::rises(file, nodes, used, so, have);
-                        so = more;
-                        next = n;
-                        have = u;
-                        left -= 1;
-                    }
-                }
-            }
-            settle(file, nodes, used, next, have, so)
-        }
+    let n = node::node_head(file, at, end).ok_or(Fault::Unspelled)?;
+    node::put_node(file, n, parent, nodes, used);
+    let below = depth - 1;
+    let mut next = n.next;
+    let mut have = used + 1;
+    let mut so = Rising {
+        last: used,
+        bytes: true,
+        git: true,
+    };
+    for _ in 0..n.subtrees {
+        let kid = one_recursive(file, next, end, nodes, have, used as u64, below)?;
+        so = siblings::rises(file, nodes, used, so, have);
+        next = kid.next;
+        have = kid.used;
     }
+    settle(file, nodes, used, next, have, so)
 }
 
 // Reads the root, behind which nothing follows.
-fn root(file: &[u8], start: usize, end: usize, nodes: &mut [u8]) -> Step
+#[tactic(auto, unfolding(crate::specs::Tree::root_at))]
+fn root(file: &[u8], start: usize, end: usize, nodes: &mut [u8]) -> Result<Read, Fault>
     ensures { (result, nodes.new) ≡ root_at id_size depth_limit file.now start end nodes.old }
 {
-    if end < start {
-        return Step::Stops(Fault::Unspelled);
+    if end < start || file.len() < end {
+        return Err(Fault::Unspelled);
     }
-    if file.len() < end {
-        return Step::Stops(Fault::Unspelled);
-    }
-    let a = one_recursive(
+    let all = one_recursive(
         file,
         start,
         end,
@@ -129,51 +112,50 @@ fn root(file: &[u8], start: usize, end: usize, nodes: &mut [u8]) -> Step
         0,
         node::MINUS_ONE,
         format::DEPTH_LIMIT,
-    );
-    match a {
-        Step::Stops(f) => Step::Stops(f),
-        Step::Read { next, used } => {
-            if next == end {
-                return Step::Read { next, used };
-            }
-            Step::Stops(Fault::Unspelled)
-        }
+    )?;
+    if all.next == end {
+        return Ok(all);
     }
+    Err(Fault::Unspelled)
 }
 
-fn answer(f: Fault) -> TreeAnswer
+fn answer(f: Fault) -> Result<Option<usize>, Error>
     ensures { result ≡ answer_of f }
 {
     match f {
-        Fault::Unspelled => TreeAnswer::Malformed,
-        Fault::Deep => TreeAnswer::TooDeep,
-        Fault::Full => TreeAnswer::NoRoom,
+        Fault::Unspelled => Ok(None),
+        Fault::Deep => Err(Error::TooDeep),
+        Fault::Full => Err(Error::NoRoom),
     }
 }
 
-// Reads the body of a TREE extension, the bytes of the file from `start` to `end`, into the node store.
-pub fn read_tree(file: &[u8], start: usize, end: usize, nodes: &mut [u8]) -> TreeAnswer
+// Reads the body of a TREE extension, the bytes of the file from `start` to `end`, into the node store, and answers how many nodes the tree has; none where it is
+// malformed.
+#[tactic(auto, unfolding(crate::specs::Tree::read_tree))]
+pub fn read_tree(
+    file: &[u8],
+    start: usize,
+    end: usize,
+    nodes: &mut [u8],
+) -> Result<Option<usize>, Error>
     ensures { (result, nodes.new) ≡ read_tree id_size depth_limit file.now start end nodes.old }
 {
-    let a = root(file, start, end, nodes);
-    match a {
-        Step::Read { next: _, used } => TreeAnswer::Tree(used),
-        Step::Stops(f) => {
-            let n = nodes.len();
-            slices::clear(nodes, 0, n);
+    match root(file, start, end, nodes) {
+        Ok(read) => Ok(Some(read.used)),
+        Err(f) => {
+            nodes.fill(0);
             answer(f)
         }
     }
 }
 
 // The number that 01's table gives an answer; 0 for a tree, and for a malformed one, which refuses nothing.
-pub fn number(a: TreeAnswer) -> u32
+pub fn number(a: Result<Option<usize>, Error>) -> u32
     ensures { result ≡ number_of a }
 {
     match a {
-        TreeAnswer::Tree(_) => 0,
-        TreeAnswer::Malformed => 0,
-        TreeAnswer::TooDeep => refusal::TOO_DEEP,
-        TreeAnswer::NoRoom => refusal::NO_NODE_ROOM,
+        Ok(_) => 0,
+        Err(Error::TooDeep) => refusal::TOO_DEEP,
+        Err(Error::NoRoom) => refusal::NO_NODE_ROOM,
     }
 }

@@ -4,102 +4,60 @@
 
 #![tactic(auto)]
 
-ghost use Rattle.std.specs.Prelude.{◌≡◌, length};
+use replay::Cases;
+use std::io::Result;
 
-use tree::TreeAnswer;
-
-// The descriptors of standard input and output.
-const STDIN_FILENO: i32 = 0;
-
-const STDOUT_FILENO: i32 = 1;
-
-// Room for all bodies.
-fn cases_room() -> [u8; 131072]
-    ensures { 131072 ≡ length result }
-{
-    [0; 131072]
-}
+// The most that is read of the list of bodies.
+const LIST_ROOM: usize = 131072;
 
 // Room for 520 nodes, more than a tree may be deep, and seven bytes over.
-fn nodes_room() -> [u8; 37447]
-    ensures { 37447 ≡ length result }
-{
-    [0; 37447]
-}
-
-// Bytes in hexadecimal digits.
-fn show_hex(s: &[u8]) {
-    let mut i: usize = 0;
-    while i < s.len() {
-        io::write_all(STDOUT_FILENO, &show::hex_byte(s[i]));
-        i += 1;
-    }
-}
+const NODE_ROOM: usize = 37447;
 
 // A number, -1 in its own spelling.
-fn show_number(x: u64) {
-    if x == node::MINUS_ONE {
-        io::write_all(STDOUT_FILENO, b"-1 ");
-    } else {
-        io::print_decimal(STDOUT_FILENO, x);
-        io::write_all(STDOUT_FILENO, b" ");
+fn show_number(rt: &impl Print, x: u64) -> Result<()> {
+    match x {
+        node::MINUS_ONE => print!(rt; "-1 "),
+        _ => print!(rt; "{x} "),
     }
 }
 
-fn show_node(file: &[u8], nodes: &[u8], i: usize) {
-    io::write_all(STDOUT_FILENO, b"|");
-    show_number(node::parent(nodes, i));
-    show_hex(node::name(file, nodes, i));
-    io::write_all(STDOUT_FILENO, b" ");
-    show_number(node::count(nodes, i));
-    show_number(node::subtrees(nodes, i));
-    show_hex(node::id(nodes, i));
+fn show_node(rt: &impl Print, body: &[u8], nodes: &[u8], i: usize) -> Result<()> {
+    print!(rt; "|")?;
+    show_number(rt, node::parent(nodes, i))?;
+    replay::print_hex(rt, node::name(body, nodes, i))?;
+    print!(rt; " ")?;
+    show_number(rt, node::count(nodes, i))?;
+    show_number(rt, node::subtrees(nodes, i))?;
+    replay::print_hex(rt, node::id(nodes, i))
 }
 
-fn show_nodes(file: &[u8], nodes: &[u8], used: usize) {
-    let mut i: usize = 0;
-    while i < used {
-        show_node(file, nodes, i);
-        i += 1;
+fn show_nodes(rt: &impl Print, body: &[u8], nodes: &[u8], used: usize) -> Result<()> {
+    for i in 0..used {
+        show_node(rt, body, nodes, i)?;
     }
-    io::write_all(STDOUT_FILENO, b"\n");
+    println!(rt)
 }
 
 // The answer to one body.
-fn answer(file: &[u8], start: usize, end: usize, nodes: &mut [u8]) {
-    let a = tree::read_tree(file, start, end, nodes);
-    match a {
-        TreeAnswer::Tree(used) => show_nodes(file, nodes, used),
-        TreeAnswer::Malformed => {
-            io::write_all(STDOUT_FILENO, b"none\n");
-        }
-        TreeAnswer::TooDeep | TreeAnswer::NoRoom => {
-            io::print_decimal(STDOUT_FILENO, tree::number(a) as u64);
-            io::write_all(STDOUT_FILENO, b"\n");
+fn show_answer(rt: &impl Print, body: &[u8], nodes: &mut [u8]) -> Result<()> {
+    let answer = tree::read_tree(body, 0, body.len(), nodes);
+    match answer {
+        Ok(Some(used)) => show_nodes(rt, body, nodes, used),
+        Ok(None) => println!(rt; "none"),
+        Err(_) => {
+            let number = tree::number(answer);
+            println!(rt; "{number}")
         }
     }
 }
 
-fn replay(cases: &[u8], nodes: &mut [u8]) {
-    let mut at: usize = 0;
-    while at < cases.len() {
-        if cases.len() - at < 2 {
-            return;
-        }
-        let size = wire::be16(cases, at) as usize;
-        let start = at + 2;
-        if cases.len() - start < size {
-            return;
-        }
-        let end = start + size;
-        answer(cases, start, end, nodes);
-        at = end;
+fn main(rt: HostRuntime) -> Result<()> {
+    let list = replay::read_up_to(rt.stdin(), LIST_ROOM, rt.alloc())?;
+    // what is lent is a store of a fixed size
+    let mut nodes = [0u8; NODE_ROOM];
+    for body in Cases::of(&list) {
+        // what cannot be printed is left out
+        let _ = show_answer(&rt, body, &mut nodes);
     }
-}
-
-fn main() {
-    let mut cases = cases_room();
-    let n = io::read_full(STDIN_FILENO, &mut cases);
-    let mut nodes = nodes_room();
-    replay(&cases[..n], &mut nodes);
+    Ok(())
 }

@@ -3,12 +3,11 @@ use mathlib.Core.Bool.{Bool, true, false}
 use mathlib.Core.Path.{◌≡◌, refl, sym, ap, ◌∙◌, subst}
 use mathlib.Core.Logic.{◌⊎◌, inl, inr, ⊎_elim}
 use mathlib.Core.List.{List, [], ◌∷◌, ◌++◌, append_assoc, append-nil}
-use Prim.Native.Nat.{ℕ, suc, ◌+◌, ◌-◌, ◌≤◌, ◌<◌}
-use native.Mathlib.Nat.{pos_of_ne-zero}
+use Prim.Native.Nat.{ℕ, ◌+◌, ◌-◌, ◌≤◌, ◌<◌}
 use native.Mathlib.Omega.{arith}
 use lib.Dec.{eqb}
-use lib.ListN.{length, get_or, set, take, drop, replicate, length-drop, length-append, length-set, length-replicate, get_or-replicate, get_or-eq_default}
-use lib.Seq.{get_or-set_same, get_or-set_other, length-take-le}
+use lib.ListN.{length, get_or, set, replicate, length-append, length-replicate, get_or-replicate, get_or-eq_default}
+use lib.Seq.{get_or-set_same, get_or-set_other}
 use borrow.Author.Tests.{eq-eqb, ne_eqb}
 use Rattle.laws.specs.Pick.{pick}
 use Rattle.laws.specs.Put.{put, put_none, put_before}
@@ -21,19 +20,20 @@ use Rattle.walk_order.specs.Below.{Above, itself, higher, above_low, above_on}
 use Rattle.walk_order.specs.Child.{child_behind}
 use Rattle.walk_order.specs.Depth.{within_walks}
 use Rattle.walk_order.specs.Kid.{kid_none}
-use Rattle.tree_write.specs.declared.runs.Runs.{Runs}
+use Rattle.std.specs.Prelude.{Option}
 use Rattle.tree_write.specs.declared.runs.Kid.{Kid}
+use Rattle.tree_write.specs.declared.spine.Rung.{Rung}
 use Rattle.tree_write.specs.Order.{before, false_true, before_not, before_trans}
 use Rattle.tree_write.specs.Tree.{ahead, head_bytes, kids, each, node_bytes, tree_bytes}
 use Rattle.tree_write.specs.Kids.{Mem, here, there, Rising, done, more, not_mem, tally, tally_less, children, children_are, children_rise}
 use Rattle.tree_write.specs.Children.{mem_cases}
 use Rattle.tree_write.specs.Span.{Span, span_root, kid_is}
 use Rattle.tree_write.specs.Flat.{is_shallow, shallow_says}
-use Rattle.tree_write.specs.Runs.{Early, Last, Taken}
-use Rattle.tree_write.specs.Spine.{Spine}
+use Rattle.tree_write.specs.Runs.{Early, NoneLeft, Last, Ready}
+use Rattle.tree_write.specs.Spine.{root, Spine}
 use Rattle.tree_write.specs.Back.{Asked, Filed}
 use Rattle.tree_write.proofs.Laws.{node_cut, node_long}
-use Rattle.tree_write.proofs.Merge.{ahead_any, ahead_before, ahead_says}
+use Rattle.tree_write.proofs.Merge.{ahead_any, ahead_before, ahead_says, ahead_on}
 
 -- ---- lists in two parts
 
@@ -120,56 +120,53 @@ module _ (ns nm : List ℕ) (p bound : ℕ) (front rest : List ℕ) (whole : kid
           let b : before ns nm j x ≡ true = ahead_says ns nm j x (λ z. omega arith) a in
           ⊎_elim (λ z. before_not ns nm x (subst (λ (y : ℕ). before ns nm y x ≡ true) z b)) (λ n. before_not ns nm x (before_trans ns nm x j x (h j n) b)) (mem_cases m)
 
-  module _ (k : ℕ) (last : Last ns nm p bound k) where
-    pub split_end : k ≡ 0 → front ≡ []
-    split_end z = by (last_of front)
-      where
-        by : (front ≡ []) ⊎ ((a : List ℕ) × (y : ℕ) × (front ≡ a ++ (y ∷ []))) → front ≡ []
-        by (inl e) = e
-        by (inr (a, y, e)) = absurd (last.some y (left_early y (subst (λ (l : List ℕ). Mem y l) (sym e) (mem_right a here))) z)
+  pub split_end : NoneLeft ns nm p bound → front ≡ []
+  split_end over = by (last_of front)
+    where
+      by : (front ≡ []) ⊎ ((a : List ℕ) × (y : ℕ) × (front ≡ a ++ (y ∷ []))) → front ≡ []
+      by (inl e) = e
+      by (inr (a, y, e)) = absurd (over y (left_early y (subst (λ (l : List ℕ). Mem y l) (sym e) (mem_right a here))))
 
-    pub split_last : (k ≡ 0 → ⊥) → (a : List ℕ) × (front ≡ a ++ (k ∷ []))
-    split_last d = by (last_of front) (early_left k (last.found d))
-      where
-        by : (front ≡ []) ⊎ ((a : List ℕ) × (y : ℕ) × (front ≡ a ++ (y ∷ []))) → Mem k front → (a : List ℕ) × (front ≡ a ++ (k ∷ []))
-        by (inl e) m = absurd (not_mem m e)
-        by (inr (a, y, e)) m =
-            let r : Rising R (a ++ (y ∷ [])) = subst (λ (l : List ℕ). Rising R l) e (rising_left front rest rise) in
-            let up : Early ns nm p bound y = left_early y (subst (λ (l : List ℕ). Mem y l) (sym e) (mem_right a here)) in
-            let same : k ≡ y =
-            ⊎_elim (λ n. absurd (last.last y up (rising_across a (y ∷ []) r n here))) (λ n. ⊎_elim (λ z. z) (λ z. absurd (not_mem z refl)) (mem_cases n)) (mem_part a (y ∷ []) (subst (λ (l : List ℕ). Mem k l) e m)) in
-            (a, e ∙ ap (λ (x : ℕ). a ++ (x ∷ [])) (sym same))
+  pub split_last : (k : ℕ) → Last ns nm p bound k → (a : List ℕ) × (front ≡ a ++ (k ∷ []))
+  split_last k last = by (last_of front) (early_left k last.early)
+    where
+      by : (front ≡ []) ⊎ ((a : List ℕ) × (y : ℕ) × (front ≡ a ++ (y ∷ []))) → Mem k front → (a : List ℕ) × (front ≡ a ++ (k ∷ []))
+      by (inl e) m = absurd (not_mem m e)
+      by (inr (a, y, e)) m =
+          let r : Rising R (a ++ (y ∷ [])) = subst (λ (l : List ℕ). Rising R l) e (rising_left front rest rise) in
+          let up : Early ns nm p bound y = left_early y (subst (λ (l : List ℕ). Mem y l) (sym e) (mem_right a here)) in
+          let same : k ≡ y =
+          ⊎_elim (λ n. absurd (last.last y up (rising_across a (y ∷ []) r n here))) (λ n. ⊎_elim (λ z. z) (λ z. absurd (not_mem z refl)) (mem_cases n)) (mem_part a (y ∷ []) (subst (λ (l : List ℕ). Mem k l) e m)) in
+          (a, e ∙ ap (λ (x : ℕ). a ++ (x ∷ [])) (sym same))
 
 -- ---- the loop
 
--- the children that were taken are written, up to the place; the next one was taken
-pub record Backing (ns nm : List ℕ) (p end b : ℕ) (out₀ : List ℕ) (to : ℕ) (runs : Runs) (out : List ℕ) (pos : ℕ) (kid : Kid) (tails stops : List ℕ) : Type 0 where
-  pub bound : ℕ
+-- the children that were taken are written, up to the place; the bound is the last that was taken
+pub record Backing (ns nm : List ℕ) (p b : ℕ) (out₀ : List ℕ) (to : ℕ) (runs : Option ℕ) (out : List ℕ) (pos bound : ℕ) (tails : List Kid) : Type 0 where
   pub front : List ℕ
   pub rest : List ℕ
   pub whole : kids ns nm p (nodes_in ns) 0 ≡ front ++ rest
   pub starts : Starts bound rest
-  pub taken : Taken ns nm p end bound runs tails stops kid
+  pub ready : Ready ns nm p bound runs tails
   pub begins : pos + length (each (node_bytes id_size ns nm b) rest) ≡ to
   pub long : length out ≡ length out₀
   pub run : out ≡ put out₀ pos (each (node_bytes id_size ns nm b) rest)
 
-pub backing_start : (ns nm : List ℕ) (p end b : ℕ) (out : List ℕ) (to : ℕ) (runs : Runs) (kid : Kid) (tails stops : List ℕ) → Taken ns nm p end 0 runs tails stops kid → Backing ns nm p end b out to runs out to kid tails stops
+pub backing_start : (ns nm : List ℕ) (p b : ℕ) (out : List ℕ) (to : ℕ) (runs : Option ℕ) (tails : List Kid) → Ready ns nm p 0 runs tails → Backing ns nm p b out to runs out to 0 tails
 unfolding each
-backing_start ns nm p end b out to runs kid tails stops t = record {
-  bound = 0;
+backing_start ns nm p b out to runs tails h = record {
   front = kids ns nm p (nodes_in ns) 0;
   rest = [];
   whole = sym (append-nil (kids ns nm p (nodes_in ns) 0));
   starts = none;
-  taken = t;
+  ready = h;
   begins = omega arith;
   long = refl;
   run = sym (put_none out to);
 }
 
-module _ (ns nm : List ℕ) (p end depth : ℕ) (out₀ : List ℕ) (to : ℕ) (deep : depth ≡ 0 → ⊥) (room : length (node_bytes id_size ns nm depth p) ≤ to) (inside : to ≤ length out₀) (runs : Runs) (out : List ℕ) (pos : ℕ) (kid : Kid) (tails stops : List ℕ)
-    (inv : Backing ns nm p end (depth - 1) out₀ to runs out pos kid tails stops) where
+module _ (ns nm : List ℕ) (p depth : ℕ) (out₀ : List ℕ) (to : ℕ) (deep : depth ≡ 0 → ⊥) (room : length (node_bytes id_size ns nm depth p) ≤ to) (inside : to ≤ length out₀) (runs : Option ℕ) (out : List ℕ) (pos bound : ℕ) (tails : List Kid)
+    (inv : Backing ns nm p (depth - 1) out₀ to runs out pos bound tails) where
   abbrev f : ℕ → List ℕ
   f = node_bytes id_size ns nm (depth - 1)
 
@@ -189,9 +186,9 @@ module _ (ns nm : List ℕ) (p end depth : ℕ) (out₀ : List ℕ) (to : ℕ) (
   pub backing_inside : pos ≤ length out
   backing_inside = omega (arith, inv.begins, inv.long)
 
-  pub backing_end : kid.node ≡ 0 → (new : List ℕ) (at : ℕ) → Filed (head_bytes id_size ns nm p) out pos new at → Filed (node_bytes id_size ns nm depth p) out₀ to new at
-  backing_end z new at h =
-      let none : inv.front ≡ [] = split_end ns nm p inv.bound inv.front inv.rest inv.whole inv.starts kid.node inv.taken.found.last z in
+  pub backing_end : NoneLeft ns nm p bound → (new : List ℕ) (at : ℕ) → Filed (head_bytes id_size ns nm p) out pos new at → Filed (node_bytes id_size ns nm depth p) out₀ to new at
+  backing_end over new at h =
+      let none : inv.front ≡ [] = split_end ns nm p bound inv.front inv.rest inv.whole inv.starts over in
       let all : node_bytes id_size ns nm depth p ≡ head_bytes id_size ns nm p ++ each f inv.rest = node_cut ns nm depth p deep ∙ ap (λ (l : List ℕ). head_bytes id_size ns nm p ++ each f l) (inv.whole ∙ ap (λ (l : List ℕ). l ++ inv.rest) none) in
       record {
         start = omega (arith, ap length all, length-append (head_bytes id_size ns nm p) (each f inv.rest), h.start, inv.begins);
@@ -202,11 +199,11 @@ module _ (ns nm : List ℕ) (p end depth : ℕ) (out₀ : List ℕ) (to : ℕ) (
             ∙ ap (λ (l : List ℕ). put out₀ at l) (sym all);
       }
 
-  module _ (real : kid.node ≡ 0 → ⊥) where
-    split : (a : List ℕ) × (inv.front ≡ a ++ (kid.node ∷ []))
-    split = split_last ns nm p inv.bound inv.front inv.rest inv.whole inv.starts kid.node inv.taken.found.last real
+  module _ (kid : ℕ) (last : Last ns nm p bound kid) where
+    split : (a : List ℕ) × (inv.front ≡ a ++ (kid ∷ []))
+    split = split_last ns nm p bound inv.front inv.rest inv.whole inv.starts kid last
 
-    pub backing_room : length (node_bytes id_size ns nm (depth - 1) kid.node) ≤ pos
+    pub backing_room : length (node_bytes id_size ns nm (depth - 1) kid) ≤ pos
     backing_room =
         let (a, e) = split in
         omega (
@@ -214,30 +211,29 @@ module _ (ns nm : List ℕ) (p end depth : ℕ) (out₀ : List ℕ) (to : ℕ) (
           parts,
           inv.begins,
           ap (λ (l : List ℕ). length (each f l)) e,
-          ap length (each_append f a (kid.node ∷ [])),
-          length-append (each f a) (each f (kid.node ∷ [])),
-          ap length (each_one f kid.node []),
-          length-append (f kid.node) (each f []),
+          ap length (each_append f a (kid ∷ [])),
+          length-append (each f a) (each f (kid ∷ [])),
+          ap length (each_one f kid []),
+          length-append (f kid) (each f []),
         )
 
-    pub backing_more : (out₁ : List ℕ) (pos₁ : ℕ) (kid₁ : Kid) (tails₁ stops₁ : List ℕ) → length out₁ ≡ length out → Filed (node_bytes id_size ns nm (depth - 1) kid.node) out pos out₁ pos₁ → Taken ns nm p end kid.node runs tails₁ stops₁ kid₁
-        → Backing ns nm p end (depth - 1) out₀ to runs out₁ pos₁ kid₁ tails₁ stops₁
-    backing_more out₁ pos₁ kid₁ tails₁ stops₁ long h t =
+    pub backing_more : (out₁ : List ℕ) (pos₁ : ℕ) (tails₁ : List Kid) → length out₁ ≡ length out → Filed (node_bytes id_size ns nm (depth - 1) kid) out pos out₁ pos₁ → Ready ns nm p kid runs tails₁
+        → Backing ns nm p (depth - 1) out₀ to runs out₁ pos₁ kid tails₁
+    backing_more out₁ pos₁ tails₁ long h t =
         let (a, e) = split in
         record {
-          bound = kid.node;
           front = a;
-          rest = kid.node ∷ inv.rest;
-          whole = inv.whole ∙ ap (λ (l : List ℕ). l ++ inv.rest) e ∙ append_assoc a (kid.node ∷ []) inv.rest;
-          starts = some (pos_of_ne-zero real);
-          taken = t;
-          begins = omega (arith, ap length (each_one f kid.node inv.rest), length-append (f kid.node) (each f inv.rest), h.start, inv.begins);
+          rest = kid ∷ inv.rest;
+          whole = inv.whole ∙ ap (λ (l : List ℕ). l ++ inv.rest) e ∙ append_assoc a (kid ∷ []) inv.rest;
+          starts = some last.early.real;
+          ready = t;
+          begins = omega (arith, ap length (each_one f kid inv.rest), length-append (f kid) (each f inv.rest), h.start, inv.begins);
           long = long ∙ inv.long;
           run =
               h.run
-              ∙ ap (λ (l : List ℕ). put l pos₁ (f kid.node)) (inv.run ∙ ap (λ (k : ℕ). put out₀ k (each f inv.rest)) (sym h.start))
-              ∙ put_before out₀ (f kid.node) (each f inv.rest) pos₁ (omega (arith, h.start, inv.begins))
-              ∙ ap (λ (l : List ℕ). put out₀ pos₁ l) (sym (each_one f kid.node inv.rest));
+              ∙ ap (λ (l : List ℕ). put l pos₁ (f kid)) (inv.run ∙ ap (λ (k : ℕ). put out₀ k (each f inv.rest)) (sym h.start))
+              ∙ put_before out₀ (f kid) (each f inv.rest) pos₁ (omega (arith, h.start, inv.begins))
+              ∙ ap (λ (l : List ℕ). put out₀ pos₁ l) (sym (each_one f kid inv.rest));
         }
 
 -- ---- how many children are left
@@ -246,18 +242,18 @@ module _ (ns nm : List ℕ) (p : ℕ) where
   unfoldable pub early : ℕ → ℕ → Bool
   early bound i = pick (eqb i 0) false (pick (eqb (parent_at ns i) p) (ahead ns nm i bound) false)
 
-  -- the next child and those before it
+  -- those before the bound
   unfoldable pub left_at : ℕ → ℕ
-  left_at kid = pick (eqb kid 0) 0 (suc (tally (early kid) (nodes_in ns)))
+  left_at bound = tally (early bound) (nodes_in ns)
 
-  early_on : (k b i : ℕ) → (k ≡ 0 → ⊥) → ahead ns nm k b ≡ true → (b ≡ 0 → ⊥) → early k i ≡ true → early b i ≡ true
+  early_on : (k b i : ℕ) → (k ≡ 0 → ⊥) → ahead ns nm k b ≡ true → early k i ≡ true → early b i ≡ true
   unfolding early
-  early_on k b i d a db h = by (eqb i 0) (eqb (parent_at ns i) p) h
+  early_on k b i d a h = by (eqb i 0) (eqb (parent_at ns i) p) h
     where
       by : (x y : Bool) → pick x false (pick y (ahead ns nm i k) false) ≡ true → pick x false (pick y (ahead ns nm i b) false) ≡ true
       by true y e = absurd (false_true e)
       by false false e = absurd (false_true e)
-      by false true e = ahead_before ns nm i b (before_trans ns nm i k b (ahead_says ns nm i k d e) (ahead_says ns nm k b db a))
+      by false true e = ahead_on ns nm i k b (ahead_says ns nm i k d e) a
 
   early_not : (k : ℕ) → (k ≡ 0 → ⊥) → (t : Bool) → early k k ≡ t → t ≡ false
   unfolding early
@@ -273,16 +269,12 @@ module _ (ns nm : List ℕ) (p : ℕ) where
   unfolding early
   early_yes b k e = let d : k ≡ 0 → ⊥ = λ z. omega (arith, e.real) in rw (ne_eqb k 0 d, eq-eqb (parent_at ns k) p e.child) e.early
 
-  pub left_less : (b k : ℕ) → (b ≡ 0 → ⊥) → Last ns nm p b k → left_at k < left_at b
+  pub left_less : (b k : ℕ) → Last ns nm p b k → left_at k < left_at b
   unfolding left_at
-  left_less b k d l = rw (ne_eqb b 0 d) (by (eqb k 0) refl)
-    where
-      by : (t : Bool) → eqb k 0 ≡ t → pick t 0 (suc (tally (early k) (nodes_in ns))) < suc (tally (early b) (nodes_in ns))
-      by true e = omega arith
-      by false e =
-          let r : k ≡ 0 → ⊥ = λ z. false_true (sym e ∙ eq-eqb k 0 z) in
-          let q : Early ns nm p b k = l.found r in
-          omega (arith, tally_less (early k) (early b) (λ i h. early_on k b i r q.early d h) (nodes_in ns) k q.inside (early_yes b k q) (early_not k r (early k k) refl))
+  left_less b k l =
+      let e : Early ns nm p b k = l.early in
+      let r : k ≡ 0 → ⊥ = λ z. omega (arith, e.real) in
+      tally_less (early k) (early b) (λ i h. early_on k b i r e.early h) (nodes_in ns) k e.inside (early_yes b k e) (early_not k r (early k k) refl)
 
 -- ---- the head
 
@@ -296,31 +288,25 @@ pub node_none : (ns nm : List ℕ) (depth me : ℕ) (out : List ℕ) (to : ℕ) 
 unfolding node_bytes
 node_none ns nm depth me out to z = rw z (record { start = omega arith; run = sym (put_none out to) })
 
--- ---- the stores
-
--- the parts behind k of two stores of one length
-pub parts_beside : (k : ℕ) (a b : List ℕ) → length a ≡ length b → length (take (length a - k) (drop k a)) ≡ length (take (length b - k) (drop k b))
-parts_beside k a b e =
-    length-take-le (length a - k) (drop k a) (omega (arith, length-drop k a)) ∙ ap (λ (n : ℕ). n - k) e ∙ sym (length-take-le (length b - k) (drop k b) (omega (arith, length-drop k b)))
-
 -- ---- the spine
 
-pub spine_set : (ns spine leaves : List ℕ) (k node leaf : ℕ) → Spine ns spine leaves → k < length spine → Above ns node leaf → Spine ns (set spine k node) (set leaves k leaf)
-spine_set ns spine leaves k node leaf s l a = record {
-  beside = length-set leaves k leaf ∙ s.beside ∙ sym (length-set spine k node);
-  up = λ i. by (tri i k);
-}
-  where
-    here_is : Above ns (get_or (set spine k node) k 0) (get_or (set leaves k leaf) k 0)
-    here_is = rw (get_or-set_same spine k node 0 l, get_or-set_same leaves k leaf 0 (omega (arith, s.beside))) a
+abbrev Kept : List ℕ → Rung → Type 0
+Kept ns r = Above ns r.node r.leaf
 
-    other : (i : ℕ) → (i ≡ k → ⊥) → Above ns (get_or (set spine k node) i 0) (get_or (set leaves k leaf) i 0)
-    other i d = rw (get_or-set_other spine k i node 0 d, get_or-set_other leaves k i leaf 0 d) (s.up i)
+module _ (ns : List ℕ) (spine : List Rung) (k node leaf : ℕ) (s : Spine ns spine) (l : k < length spine) (a : Above ns node leaf) where
+  abbrev new : Rung
+  new = record { node = node; leaf = leaf }
 
-    by : {i : ℕ} → (i < k) ⊎ ((i ≡ k) ⊎ (k < i)) → Above ns (get_or (set spine k node) i 0) (get_or (set leaves k leaf) i 0)
-    by {i} (inl m) = other i (λ z. omega arith)
-    by {i} (inr (inl m)) = subst (λ (x : ℕ). Above ns (get_or (set spine k node) x 0) (get_or (set leaves k leaf) x 0)) (sym m) here_is
-    by {i} (inr (inr m)) = other i (λ z. omega arith)
+  other : (i : ℕ) → (i ≡ k → ⊥) → Kept ns (get_or (set spine k new) i root)
+  other i d = subst (Kept ns) (sym (get_or-set_other spine k i new root d)) (s.up i)
+
+  pub spine_set : Spine ns (set spine k (record { node = node; leaf = leaf }))
+  spine_set = record { up = λ i. by (tri i k) }
+    where
+      by : {i : ℕ} → (i < k) ⊎ ((i ≡ k) ⊎ (k < i)) → Kept ns (get_or (set spine k new) i root)
+      by {i} (inl m) = other i (λ z. omega arith)
+      by {i} (inr (inl m)) = subst (λ (x : ℕ). Kept ns (get_or (set spine k new) x root)) (sym m) (subst (Kept ns) (sym (get_or-set_same spine k new root l)) a)
+      by {i} (inr (inr m)) = other i (λ z. omega arith)
 
 -- the parent of a node above the leaf stands above it too
 pub climb_up : (ns : List ℕ) (leaf node up p : ℕ) → walks depth_limit ns ≡ true → leaf < nodes_in ns → Above ns node leaf → up ≡ parent_at ns node → p < node → Above ns up leaf
@@ -329,33 +315,34 @@ climb_up ns leaf node up p w l a e h =
     let less : parent_at ns node < node = child_behind depth_limit ns w node (omega arith) (omega arith) in
     subst (λ (x : ℕ). Above ns x leaf) (sym e) (above_on (higher less itself) a)
 
-pub kept_above : (ns spine leaves : List ℕ) (i leaf node : ℕ) → Spine ns spine leaves → get_or leaves i 0 ≡ leaf → node ≡ get_or spine i 0 → Above ns node leaf
-kept_above ns spine leaves i leaf node s e q = rw (q, ← e) (s.up i)
+pub kept_above : (ns : List ℕ) (spine : List Rung) (i leaf : ℕ) → Spine ns spine → (get_or spine i root).leaf ≡ leaf → Above ns (get_or spine i root).node leaf
+kept_above ns spine i leaf s e = subst (λ (x : ℕ). Above ns (get_or spine i root).node x) e (s.up i)
 
-abbrev pub zeros : ℕ → List ℕ
-zeros n = replicate n 0
+abbrev pub roots : ℕ → List Rung
+roots n = replicate n root
 
-zeros_at : (n i : ℕ) → get_or (zeros n) i 0 ≡ 0
-zeros_at n i = ⊎_elim (λ l. get_or-replicate n i 0 0 l) (λ l. get_or-eq_default (zeros n) 0 (omega (arith, length-replicate {A = ℕ} n 0))) (lt_or_ge i n)
+roots_at : (n i : ℕ) → get_or (roots n) i root ≡ root
+roots_at n i = ⊎_elim (λ l. get_or-replicate n i root root l) (λ l. get_or-eq_default (roots n) root (omega (arith, length-replicate {A = Rung} n root))) (lt_or_ge i n)
 
-pub spine_zeros : (ns : List ℕ) (n : ℕ) → Spine ns (zeros n) (zeros n)
-spine_zeros ns n = record { beside = refl; up = λ i. rw (zeros_at n i) itself }
+pub spine_roots : (ns : List ℕ) (n : ℕ) → Spine ns (roots n)
+spine_roots ns n = record { up = λ i. subst (Kept ns) (sym (roots_at n i)) itself }
 
 -- ---- the whole tree
 
-pub asked_root : (ns nm : List ℕ) (n : ℕ) (out : List ℕ) (to : ℕ) (tails stops : List ℕ) → is_shallow depth_limit ns ≡ true → n ≡ nodes_in ns → length (tree_bytes id_size depth_limit ns nm) ≤ to → to ≤ length out → length stops ≡ length tails
-    → Asked ns nm 0 n depth_limit out to tails stops (zeros depth_limit) (zeros depth_limit)
-asked_root ns nm n out to tails stops h e room inside b =
-    let (real, w) = shallow_says depth_limit ns h in
-    record {
-      walk = within_walks depth_limit ns w;
-      span = subst (λ (x : ℕ). Span ns 0 x) (sym e) (span_root ns real);
-      room = room;
-      inside = inside;
-      beside = b;
-      levels = omega (arith, length-replicate {A = ℕ} depth_limit 0);
-      kept = spine_zeros ns depth_limit;
-    }
+module _ (ns : List ℕ) (h : is_shallow depth_limit ns ≡ true) where
+  pub root_walk : walks depth_limit ns ≡ true
+  root_walk = within_walks depth_limit ns (shallow_says depth_limit ns h).1
+
+  pub root_span : (n : ℕ) → n ≡ nodes_in ns → Span ns 0 n
+  root_span n e = subst (λ (x : ℕ). Span ns 0 x) (sym e) (span_root ns (shallow_says depth_limit ns h).0)
+
+pub asked_root : (ns nm out : List ℕ) (to : ℕ) → length (tree_bytes id_size depth_limit ns nm) ≤ to → to ≤ length out → Asked ns nm 0 depth_limit out to (roots depth_limit)
+asked_root ns nm out to room inside = record {
+  room = room;
+  inside = inside;
+  levels = omega (arith, length-replicate {A = Rung} depth_limit root);
+  kept = spine_roots ns depth_limit;
+}
 
 pub filed_at : (bytes out : List ℕ) (to at : ℕ) (new : List ℕ) (r : ℕ) → Filed bytes out to new r → to ≡ at + length bytes → new ≡ put out at bytes
 filed_at bytes out to at new r h e = let z : r ≡ at = omega (arith, h.start) in h.run ∙ ap (λ (k : ℕ). put out k bytes) z

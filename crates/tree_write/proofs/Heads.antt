@@ -1,56 +1,25 @@
 -- Laws of the flat way, turned the way that the needs ask. Assumes nothing.
-use mathlib.Core.Bool.{Bool, true, false}
+use mathlib.Core.Bool.{Bool, true}
 use mathlib.Core.Path.{◌≡◌, refl, sym, ap, ◌∙◌}
 use mathlib.Core.List.{List, [], ◌++◌}
-use Prim.Native.Nat.{ℕ, suc, ◌+◌, ◌-◌, ◌≤◌, ◌<◌}
+use Prim.Native.Nat.{ℕ, suc, ◌+◌, ◌-◌, ◌≤◌, ◌<◌, min}
 use native.Mathlib.Nat.{sub-zero}
 use native.Mathlib.Omega.{arith}
 use lib.ListN.{length, length-append}
-use borrow.Author.Tests.{lt-ltb, le-ltb, eq-eqb, ne_eqb}
 use Rattle.laws.specs.Put.{put, put_none, put_put, length-put}
 use Rattle.sums.specs.Cap.{largest, cap, cap_fits, cap_small, cap_cap}
 use Rattle.format.specs.Format.{depth_limit, id_size}
-use Rattle.node.specs.Store.{nodes_in, parent_at}
-use Rattle.walk_order.specs.Walk.{kid_above}
+use Rattle.node.specs.Store.{nodes_in}
 use Rattle.walk_order.specs.Depth.{all_in, all_end, all_more, all_not, walks_within}
-use Rattle.tree_write.specs.Order.{before}
+use Rattle.tree_write.proofs.Laws.{min_cap}
 use Rattle.tree_write.specs.Tree.{head_bytes, node_bytes, tree_bytes}
 use Rattle.tree_write.specs.Flat.{heads_from, rises_at, siblings_rise, is_shallow, is_flat, shallow_length, flat_is}
 
 -- ---- the test
 
-module _ (ns nm : List ℕ) (j p b kid : ℕ) (ep : p ≡ parent_at ns j) (eb : b ≡ j - 1) (ek : kid ≡ kid_above ns p b) where
-  kid_is : kid_above ns (parent_at ns j) (j - 1) ≡ kid
-  kid_is = sym (ek ∙ (λ k. kid_above ns (ep k) (eb k)))
-
-  pub rises_first : kid ≡ 0 → true ≡ rises_at ns nm j
-  unfolding rises_at
-  rises_first h = sym (rw (kid_is, eq-eqb kid 0 h))
-
-  pub rises_after : (kid ≡ 0 → ⊥) → (t : Bool) → t ≡ before ns nm kid j → t ≡ rises_at ns nm j
-  unfolding rises_at
-  rises_after h t e = e ∙ sym (rw (kid_is, ne_eqb kid 0 h))
-
 pub rise_start : (ns nm : List ℕ) (n : ℕ) → n ≡ nodes_in ns → all_in (rises_at ns nm) (n - 1) 1 ≡ siblings_rise ns nm
 unfolding siblings_rise
 rise_start ns nm n e = rw e
-
-pub shallow_empty : (ns : List ℕ) → length ns < 72 → false ≡ is_shallow depth_limit ns
-unfolding is_shallow
-shallow_empty ns h = let l : nodes_in ns ≤ 0 = omega arith in sym (rw (le-ltb 0 (nodes_in ns) l))
-
-pub shallow_walk : (ns : List ℕ) → 72 ≤ length ns → (t : Bool) → t ≡ walks_within depth_limit ns → t ≡ is_shallow depth_limit ns
-unfolding is_shallow
-shallow_walk ns h t e = let l : 0 < nodes_in ns = omega arith in e ∙ sym (rw (lt-ltb 0 (nodes_in ns) l))
-
-module _ (ns nm : List ℕ) (w : Bool) (ew : w ≡ is_shallow depth_limit ns) where
-  pub flat_not : w ≡ false → false ≡ is_flat depth_limit ns nm
-  unfolding is_flat
-  flat_not h = sym (rw (sym ew ∙ h))
-
-  pub flat_rise : w ≡ true → (t : Bool) → t ≡ siblings_rise ns nm → t ≡ is_flat depth_limit ns nm
-  unfolding is_flat
-  flat_rise h t e = e ∙ sym (rw (sym ew ∙ h))
 
 -- ---- what the tests settle
 
@@ -101,8 +70,9 @@ module _ (ns nm : List ℕ) (n i size : ℕ) (inv : Sizing ns nm n i size) where
   pub sizing_end : n ≤ i → size ≡ cap (length (heads_from id_size ns nm (nodes_in ns) 0))
   sizing_end h = let z : cap (size + 0) ≡ cap (length (heads_from id_size ns nm (nodes_in ns) 0)) = rw (heads_none ns nm n i h) at inv.run in omega (arith, z, cap_fits (size + 0) (omega (arith, inv.small)))
 
-  pub sizing_more : i < n → (one next : ℕ) → one ≡ cap (length (head_bytes id_size ns nm i)) → next ≡ cap (size + one) → Sizing ns nm n (i + 1) next
-  sizing_more h one next eo en =
+  pub sizing_more : i < n → (one next : ℕ) → one ≡ cap (length (head_bytes id_size ns nm i)) → next ≡ min (size + one) largest → Sizing ns nm n (i + 1) next
+  sizing_more h one next eo em =
+      let en : next ≡ cap (size + one) = min_cap _ _ em in
       let rest : ℕ = length (heads_from id_size ns nm (n - (i + 1)) (i + 1)) in
       let x : size + one + rest ≡ one + (size + rest) = omega arith in
       let y : length (head_bytes id_size ns nm i) + (size + rest) ≡ size + length (heads_from id_size ns nm (n - i) i) = omega (arith, heads_long ns nm n i h) in
@@ -137,4 +107,4 @@ module _ (ns nm out₀ : List ℕ) (at n i pos : ℕ) (out : List ℕ) (inv : Fi
       run = rw (eo, ep) (put_put out (head_bytes id_size ns nm i) (heads_from id_size ns nm (n - (i + 1)) (i + 1)) pos (omega (arith, filling_room)) ∙ (rw (heads_cut ns nm n i h) at inv.run));
     }
 
-pub ruleset flat-laws = (rises_first, rises_after, rise_start, all_end, all_more, all_not, shallow_empty, shallow_walk, flat_not, flat_rise, shallow_size, sizing_start, sizing_end, sizing_more, filling_start, filling_end, filling_room, filling_more)
+pub ruleset flat-laws = (rise_start, all_end, all_more, all_not, shallow_size, sizing_start, sizing_end, sizing_more, filling_start, filling_end, filling_room, filling_more)

@@ -1,27 +1,33 @@
 -- Laws of the order's and the tree's definitions, turned the way that the needs ask. Assumes nothing.
-use mathlib.Core.Bool.{Bool, true, false}
+use mathlib.Core.Bool.{Bool, true, false, not}
+use mathlib.Core.Logic.{⊎_elim}
+use lib.Dec.{ltb}
+use Rattle.laws.specs.Tests.{lt_or_ge}
 use mathlib.Core.Path.{◌≡◌, refl, sym, ap, ◌∙◌, subst}
 use mathlib.Core.List.{List, [], ◌∷◌, ◌++◌}
-use Prim.Native.Nat.{ℕ, suc, ◌+◌, ◌-◌, ◌/◌, ◌≤◌, ◌<◌}
+use Prim.Native.Nat.{ℕ, suc, ◌+◌, ◌-◌, ◌/◌, ◌≤◌, ◌<◌, min}
 use native.Mathlib.Nat.{pos_of_ne-zero}
 use native.Mathlib.Omega.{arith}
 use lib.ListN.{length, set, length-append}
 use Rattle.laws.specs.Pick.{pick}
 use lib.Seq.{paste}
-use borrow.Author.Tests.{lt-ltb, le-ltb, le-leb, lt-leb, eq-eqb, ne_eqb}
+use borrow.Author.Tests.{le-leb, lt-leb, eq-eqb, ne_eqb}
 use Rattle.laws.specs.Put.{put_then, put, put_none, put_put, length-put, paste_put, set-put}
 use Rattle.laws.specs.Order.{Comparison, below, equal, beyond, compared, Compares, is_below_lem, is_equal_lem, is_beyond, compares, before_below, compared_same}
-use Rattle.sums.specs.Cap.{largest, cap, cap_fits, cap_small, cap_le, cap_below, cap_cap}
+use Rattle.sums.specs.Cap.{largest, cap, cap_fits, cap_over, cap_small, cap_le, cap_below, cap_cap}
 use Rattle.wire.specs.Written.{digits_of}
 use Rattle.format.specs.Format.{depth_limit, id_size}
-use Rattle.node.specs.Head.{minus_one}
-use Rattle.node.specs.Store.{nodes_in, count_at, subtrees_at, parent_at, id_at, name_at}
+use Rattle.node.specs.Store.{nodes_in, count_at, subtrees_at, parent_at, name_at}
 use Rattle.siblings.specs.Siblings.{is_child}
 use Rattle.siblings.specs.Rising.{is_below}
 use Rattle.siblings.specs.Rising as rising
 use Rattle.tree_write.specs.Order.{by_index, before, false_true}
-use Rattle.tree_write.specs.Tree.{count_bytes, front_bytes, number_bytes, id_bytes, head_bytes, after, ahead, better, best_run, next_kid, kids, each, node_bytes, put_fit}
+use Rattle.tree_write.specs.Tree.{count_bytes, front_bytes, number_bytes, id_bytes, head_bytes, better, best_run, next_kid, kids, each, node_bytes, put_fit}
 use Rattle.tree_write.specs.Children.{passing, table_kids, sum_over, each_length, kids_sum}
+
+-- a sum that stops at the largest number
+pub min_cap : (n r : ℕ) → r ≡ min n largest → r ≡ cap n
+min_cap n r e = ⊎_elim (λ h. omega (arith, cap_over n h)) (λ h. omega (arith, cap_fits n h)) (lt_or_ge largest n)
 
 -- ---- bytes put side by side
 
@@ -30,92 +36,11 @@ module _ (d d₁ d₂ a b : List ℕ) (k k₁ : ℕ) (e₁ : d₁ ≡ put d k a)
   pub both_put : d₂ ≡ put d₁ k₁ b → k + length (a ++ b) ≤ length d → d₂ ≡ put d k (a ++ b)
   both_put e₂ room = put_then d d₁ d₂ a b k k₁ e₁ p₁ e₂ (omega (arith, length-append a b))
 
-  pub both_next : (k₂ : ℕ) → k₂ ≡ k₁ + length b → k₂ ≡ k + length (a ++ b)
-  both_next k₂ p₂ = omega (arith, length-append a b)
-
-  pub both_room : k + length (a ++ b) ≤ length d → k₁ + length b ≤ length d₁
-  both_room room = omega (arith, length-append a b, ap length e₁, length-put d a k (omega (arith, length-append a b)))
-
-pub first_room : (k m : ℕ) (a b : List ℕ) → k + length (a ++ b) ≤ m → k + length a ≤ m
-first_room k m a b h = omega (arith, length-append a b)
-
 pub bytes_put : (d d₁ xs : List ℕ) (k : ℕ) → d₁ ≡ paste d k xs (length xs) → d₁ ≡ put d k xs
 bytes_put d d₁ xs k e = e ∙ paste_put d xs k (length xs) refl
 
 pub byte_put : (d : List ℕ) (k b : ℕ) → k < length d → set d k b ≡ put d k (b ∷ [])
 byte_put d k b h = set-put d k b h
-
--- ---- a count
-
-module _ (count : ℕ) where
-  minus : count ≡ minus_one → count_bytes count ≡ 45 ∷ 49 ∷ []
-  unfolding count_bytes
-  minus h = rw (eq-eqb count minus_one h)
-
-  plain : (count ≡ minus_one → ⊥) → count_bytes count ≡ digits_of 10 count
-  unfolding count_bytes
-  plain h = rw (ne_eqb count minus_one h)
-
-  pub count_minus : count ≡ minus_one → 2 ≡ length (count_bytes count)
-  count_minus h = sym (ap length (minus h))
-
-  pub count_digits : (count ≡ minus_one → ⊥) → (n : ℕ) → n ≡ length (digits_of 10 count) → n ≡ length (count_bytes count)
-  count_digits h n e = e ∙ sym (ap length (plain h))
-
-  module _ (d : List ℕ) (k : ℕ) (room : k + length (count_bytes count) ≤ length d) where
-    pub minus_room : count ≡ minus_one → k < length d
-    minus_room h = omega (arith, count_minus h)
-
-    module _ (h : count ≡ minus_one) (d₁ : List ℕ) (k₁ : ℕ) (e₁ : d₁ ≡ put d k (45 ∷ [])) (p₁ : k₁ ≡ k + 1) where
-      pub minus_room_2 : k₁ < length d₁
-      minus_room_2 = omega (arith, count_minus h, ap length e₁, length-put d (45 ∷ []) k (omega (arith, count_minus h)))
-
-      pub minus_next : (k₂ : ℕ) → k₂ ≡ k₁ + 1 → k₂ ≡ k + length (count_bytes count)
-      minus_next k₂ p₂ = omega (arith, count_minus h)
-
-      pub minus_put : (d₂ : List ℕ) → d₂ ≡ put d₁ k₁ (49 ∷ []) → d₂ ≡ put d k (count_bytes count)
-      minus_put d₂ e₂ = e₂ ∙ (λ j. put (e₁ j) (p₁ j) (49 ∷ [])) ∙ put_put d (45 ∷ []) (49 ∷ []) k (omega arith) ∙ ap (λ (l : List ℕ). put d k l) (sym (minus h))
-
-    pub digits_room : (count ≡ minus_one → ⊥) → k + length (digits_of 10 count) ≤ length d
-    digits_room h = omega (arith, ap length (plain h))
-
-    pub digits_next : (count ≡ minus_one → ⊥) → (r : ℕ) → r ≡ k + length (digits_of 10 count) → r ≡ k + length (count_bytes count)
-    digits_next h r e = omega (arith, ap length (plain h))
-
-    pub digits_put : (count ≡ minus_one → ⊥) → (d₁ : List ℕ) → d₁ ≡ put d k (digits_of 10 count) → d₁ ≡ put d k (count_bytes count)
-    digits_put h d₁ e = e ∙ ap (λ (l : List ℕ). put d k l) (sym (plain h))
-
--- ---- an id
-
-module _ (ns : List ℕ) (i count : ℕ) (ec : count ≡ count_at ns i) where
-  id_out : count ≡ minus_one → id_bytes id_size ns i ≡ []
-  unfolding id_bytes
-  id_out h = rw (eq-eqb (count_at ns i) minus_one (sym ec ∙ h))
-
-  id_in : (count ≡ minus_one → ⊥) → id_bytes id_size ns i ≡ id_at id_size ns i
-  unfolding id_bytes
-  id_in h = rw (ne_eqb (count_at ns i) minus_one (λ q. h (ec ∙ q)))
-
-  pub id_none : count ≡ minus_one → 0 ≡ length (id_bytes id_size ns i)
-  id_none h = sym (ap length (id_out h))
-
-  pub id_long : (count ≡ minus_one → ⊥) → (x : List ℕ) → x ≡ id_at id_size ns i → length x ≡ length (id_bytes id_size ns i)
-  id_long h x e = ap length (e ∙ sym (id_in h))
-
-  pub id_same : count ≡ minus_one → (d : List ℕ) (k : ℕ) → d ≡ put d k (id_bytes id_size ns i)
-  id_same h d k = sym (ap (λ (l : List ℕ). put d k l) (id_out h) ∙ put_none d k)
-
-  pub id_stays : count ≡ minus_one → (k : ℕ) → k ≡ k + length (id_bytes id_size ns i)
-  id_stays h k = omega (arith, id_none h)
-
-  pub id_room_lem : (count ≡ minus_one → ⊥) → (x : List ℕ) → x ≡ id_at id_size ns i → (k m : ℕ) → k + length (id_bytes id_size ns i) ≤ m → k + length x ≤ m
-  id_room_lem h x e k m r = omega (arith, id_long h x e)
-
-  pub id_next : (count ≡ minus_one → ⊥) → (x : List ℕ) → x ≡ id_at id_size ns i → (k r : ℕ) → r ≡ k + length x → r ≡ k + length (id_bytes id_size ns i)
-  id_next h x e k r q = omega (arith, id_long h x e)
-
-  pub id_put : (count ≡ minus_one → ⊥) → (x : List ℕ) → x ≡ id_at id_size ns i → (d d₁ : List ℕ) (k : ℕ) → d₁ ≡ put d k x → d₁ ≡ put d k (id_bytes id_size ns i)
-  id_put h x e d d₁ k q = q ∙ ap (λ (l : List ℕ). put d k l) (e ∙ sym (id_in h))
 
 -- ---- a head's parts
 
@@ -234,7 +159,7 @@ module _ (ns nm : List ℕ) (i : ℕ) where
             both_put d d₂ d₃ (f ++ g) h k k₂ q₂ n₂ e₃ (omega (arith, ap length head_is)) ∙ ap (λ (l : List ℕ). put d k l) (sym head_is)
 
   pub head_size_lem : (name : List ℕ) (count subtrees digits more id named counted numbered r : ℕ) → name ≡ name_at nm ns i → count ≡ count_at ns i → subtrees ≡ subtrees_at ns i → digits ≡ length (count_bytes count) → more ≡ length (digits_of 10 subtrees)
-      → id ≡ length (id_bytes id_size ns i) → named ≡ cap (length name + 3) → counted ≡ cap (named + digits) → numbered ≡ cap (counted + more) → r ≡ cap (numbered + id) → r ≡ cap (length (head_bytes id_size ns nm i))
+      → id ≡ length (id_bytes id_size ns i) → named ≡ min (length name + 3) largest → counted ≡ min (named + digits) largest → numbered ≡ min (counted + more) largest → r ≡ min (numbered + id) largest → r ≡ cap (length (head_bytes id_size ns nm i))
   unfolding front_bytes number_bytes
   head_size_lem name count subtrees digits more id named counted numbered r en ec es ed em ei e₁ e₂ e₃ e₄ =
       let fl : length (front_bytes ns nm i) ≡ length name + 1 + digits
@@ -242,7 +167,11 @@ module _ (ns nm : List ℕ) (i : ℕ) where
       let gl : length (number_bytes ns i) ≡ 1 + more + 1
       = omega (arith, ap (λ (x : ℕ). length (digits_of 10 x)) es, length-append ((32 ∷ []) ++ digits_of 10 (subtrees_at ns i)) (10 ∷ []), length-append (32 ∷ []) (digits_of 10 (subtrees_at ns i))) in
       let z : length name + 3 + digits + more + id ≡ length (head_bytes id_size ns nm i) = omega (arith, head_long) in
-      e₄ ∙ ap (λ (x : ℕ). cap (x + id)) (e₃ ∙ ap (λ (x : ℕ). cap (x + more)) (e₂ ∙ ap (λ (x : ℕ). cap (x + digits)) e₁ ∙ cap_cap (length name + 3) digits) ∙ cap_cap (length name + 3 + digits) more)
+      let c₁ = min_cap _ _ e₁ in
+      let c₂ = min_cap _ _ e₂ in
+      let c₃ = min_cap _ _ e₃ in
+      let c₄ = min_cap _ _ e₄ in
+      c₄ ∙ ap (λ (x : ℕ). cap (x + id)) (c₃ ∙ ap (λ (x : ℕ). cap (x + more)) (c₂ ∙ ap (λ (x : ℕ). cap (x + digits)) c₁ ∙ cap_cap (length name + 3) digits) ∙ cap_cap (length name + 3 + digits) more)
       ∙ cap_cap (length name + 3 + digits + more) id ∙ ap cap z
 
 -- ---- the order of two nodes
@@ -256,14 +185,14 @@ module _ (ns nm : List ℕ) (i j : ℕ) (a b : List ℕ) (ea : a ≡ name_at nm 
   named : compared a b ≡ compared (name_at nm ns i) (name_at nm ns j)
   named = λ k. compared (ea k) (eb k)
 
-  pub before_less : t ≡ true → true ≡ before ns nm i j
+  pub before_less : t ≡ true → t ≡ before ns nm i j
   unfolding before by_index rising.before
-  before_less h = sym (ap (λ (x : Comparison). by_index x i j) (sym named ∙ compare_below (compared a b) (sym et ∙ h)))
+  before_less h = h ∙ sym (ap (λ (x : Comparison). by_index x i j) (sym named ∙ compare_below (compared a b) (sym et ∙ h)))
 
   module _ (h : t ≡ false) (u : Bool) (eu : u ≡ rising.before b a) where
-    pub before_greater : u ≡ true → false ≡ before ns nm i j
+    pub before_greater : u ≡ true → not u ≡ before ns nm i j
     unfolding before by_index rising.before
-    before_greater k = by (compares a b) refl
+    before_greater k = ap not k ∙ by (compares a b) refl
       where
         by : {x : Comparison} → Compares a b x → compared a b ≡ x → false ≡ by_index (compared (name_at nm ns i) (name_at nm ns j)) i j
         by (is_beyond s) e = sym (ap (λ (x : Comparison). by_index x i j) (sym named ∙ e))
@@ -282,49 +211,9 @@ module _ (ns nm : List ℕ) (i j : ℕ) (a b : List ℕ) (ea : a ≡ name_at nm 
         by (is_below_lem s) e = absurd (false_true (sym h ∙ et ∙ ap is_below e))
         by (is_beyond s) e = absurd (false_true (sym k ∙ eu ∙ ap is_below (before_below s)))
 
-    pub before_lower : u ≡ false → i < j → true ≡ before ns nm i j
+    pub before_tied : u ≡ false → ltb i j ≡ before ns nm i j
     unfolding before by_index
-    before_lower k l = sym (rw (tied k, lt-ltb i j l))
-
-    pub before_higher : u ≡ false → j ≤ i → false ≡ before ns nm i j
-    unfolding before by_index
-    before_higher k l = sym (rw (tied k, le-ltb i j l))
-
-pub after_none : (ns nm : List ℕ) (last j : ℕ) → last ≡ 0 → true ≡ after ns nm last j
-unfolding after
-after_none ns nm last j h = rw (eq-eqb last 0 h)
-
-pub after_one : (ns nm : List ℕ) (last j : ℕ) (t : Bool) → (last ≡ 0 → ⊥) → t ≡ before ns nm last j → t ≡ after ns nm last j
-unfolding after
-after_one ns nm last j t h e = rw (ne_eqb last 0 h) e
-
-pub ahead_none : (ns nm : List ℕ) (j best : ℕ) → best ≡ 0 → true ≡ ahead ns nm j best
-unfolding ahead
-ahead_none ns nm j best h = rw (eq-eqb best 0 h)
-
-pub ahead_one : (ns nm : List ℕ) (j best : ℕ) (t : Bool) → (best ≡ 0 → ⊥) → t ≡ before ns nm j best → t ≡ ahead ns nm j best
-unfolding ahead
-ahead_one ns nm j best t h e = rw (ne_eqb best 0 h) e
-
--- ---- the better one
-module _ (ns nm : List ℕ) (p last best j q : ℕ) (up : q ≡ parent_at ns j) where
-  pub better_stranger : (q ≡ p → ⊥) → best ≡ better ns nm p last best j
-  unfolding better
-  better_stranger h = rw (← up, ne_eqb q p h)
-
-  module _ (h : q ≡ p) (a : Bool) (ea : a ≡ after ns nm last j) where
-    pub better_passed : a ≡ false → best ≡ better ns nm p last best j
-    unfolding better
-    better_passed x = rw (← up, eq-eqb q p h, ← ea, x)
-
-    module _ (b : Bool) (eb : b ≡ ahead ns nm j best) where
-      pub better_new : a ≡ true → b ≡ true → j ≡ better ns nm p last best j
-      unfolding better
-      better_new x y = rw (← up, eq-eqb q p h, ← ea, x, ← eb, y)
-
-      pub better_old : a ≡ true → b ≡ false → best ≡ better ns nm p last best j
-      unfolding better
-      better_old x y = rw (← up, eq-eqb q p h, ← ea, x, ← eb, y)
+    before_tied k = sym (rw (tied k))
 
 -- ---- the pass
 pub run_start : (ns nm : List ℕ) (p last n : ℕ) → n ≡ nodes_in ns → best_run ns nm p last (n - 1) 1 0 ≡ next_kid ns nm p last
@@ -463,9 +352,10 @@ module _ (ns nm : List ℕ) (b me n j size r : ℕ) (inv : Adding ns nm b me n j
       run = sym (ap (λ (l : List ℕ). cap (size + sum_over sizes l)) (kids_cut ∙ rw (ne_eqb (parent_at ns j) me (λ q. d (e ∙ q))))) ∙ inv.run;
     }
 
-    pub adding_kid : p ≡ me → (one next : ℕ) → one ≡ cap (length (node_bytes id_size ns nm b j)) → next ≡ cap (size + one) → Adding ns nm b me n (j + 1) next r
+    pub adding_kid : p ≡ me → (one next : ℕ) → one ≡ cap (length (node_bytes id_size ns nm b j)) → next ≡ min (size + one) largest → Adding ns nm b me n (j + 1) next r
     unfolding sum_over
-    adding_kid d one next eo en =
+    adding_kid d one next eo em =
+        let en : next ≡ cap (size + one) = min_cap _ _ em in
         let rest : ℕ = sum_over sizes (table_kids ns me (n - (j + 1)) (j + 1)) in
         let c : table_kids ns me (n - j) j ≡ j ∷ table_kids ns me (n - (j + 1)) (j + 1) = kids_cut ∙ rw (eq-eqb (parent_at ns j) me (sym e ∙ d)) in
         let x : size + one + rest ≡ one + (size + rest) = omega arith in
@@ -496,16 +386,17 @@ module _ (ns nm : List ℕ) (b me : ℕ) (out₀ : List ℕ) (pos₀ : ℕ) (out
     pub writing_room : pos + length (node_bytes id_size ns nm b kid) ≤ length out
     writing_room = each_room b ns nm me left last kid pos (kids_more ns nm me left last kid more is real) (length out) inv.room
 
-    pub writing_more : (out₁ : List ℕ) (pos₁ : ℕ) → length out₁ ≡ length out → pos₁ ≡ pos + length (node_bytes id_size ns nm b kid) → out₁ ≡ put out pos (node_bytes id_size ns nm b kid) → Writing ns nm b me out₀ pos₀ out₁ pos₁ (left - 1) kid
-    writing_more out₁ pos₁ long e q =
+    pub writing_more : (left₁ : ℕ) → left₁ ≡ left - 1 → (out₁ : List ℕ) (pos₁ : ℕ) → length out₁ ≡ length out → pos₁ ≡ pos + length (node_bytes id_size ns nm b kid) → out₁ ≡ put out pos (node_bytes id_size ns nm b kid) → Writing ns nm b me out₀ pos₀ out₁ pos₁ left₁ kid
+    writing_more left₁ z out₁ pos₁ long e q =
         let cut = kids_more ns nm me left last kid more is real in
         let on = each_next b ns nm me left last kid pos cut pos₁ e in
-        record {
+        rw z
+        (record {
           long = long ∙ inv.long;
           room = omega (arith, on, inv.room);
           ends = on ∙ inv.ends;
           run = each_put b ns nm me left last kid pos cut out out₁ (put out₀ pos₀ (each (node_bytes id_size ns nm b) (kids ns nm me (nodes_in ns) 0))) pos₁ (omega (arith, inv.room)) inv.run q e;
-        }
+        })
 
 module _ (ns nm : List ℕ) (depth me at : ℕ) (d d₀ : List ℕ) (pos₀ : ℕ) (deep : depth ≡ 0 → ⊥) (h : at + length (node_bytes id_size ns nm depth me) ≤ length d) (e : pos₀ ≡ at + length (head_bytes id_size ns nm me)) (q : d₀ ≡ put d at (head_bytes id_size ns nm me))
     (out : List ℕ) (pos left last : ℕ) (inv : Writing ns nm (depth - 1) me d₀ pos₀ out pos left last) (none : kids ns nm me left last ≡ []) where
@@ -542,7 +433,7 @@ module _ (out tree : List ℕ) (k : ℕ) where
 
 pub ruleset tree_laws = (tree_past, tree_short)
 
-pub ruleset laws = (bytes_put, byte_put, count_minus, count_digits, minus_room, minus_room_2, minus_next, minus_put, digits_room, digits_next, digits_put, id_none, id_long, id_same, id_stays, id_room_lem, id_next, id_put, front_name, front_nul, front_count, front_next, front_put, numbers_space, numbers_digits, numbers_line, numbers_next, numbers_put, head_first, head_second, head_third, head_next, head_put, head_size_lem, before_less, before_greater, before_lower, before_higher, after_none, after_one, ahead_none, ahead_one, better_stranger, better_passed, better_new, better_old)
+pub ruleset laws = (bytes_put, byte_put, front_name, front_nul, front_count, front_next, front_put, numbers_space, numbers_digits, numbers_line, numbers_next, numbers_put, head_first, head_second, head_third, head_next, head_put, head_size_lem, before_less, before_greater, before_tied)
 
 pub ruleset run-laws = (run_start, run_end, run_more)
 

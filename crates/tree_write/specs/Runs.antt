@@ -1,11 +1,9 @@
 -- The children of a node from the last to the first (01, Writing: "siblings in byte order of name"), as runs of rising names in a table in walk order: where
 -- every child that is left stands in a run whose tail is kept, the last child is the last of the tails. Assumes nothing.
-use Rattle.std.specs.Prelude.{Bool, true, false, ◌≡◌, List, ℕ, ◌-◌, ◌≤◌, ◌<◌, eqb, length, get_or, set}
+use Rattle.std.specs.Prelude.{Bool, true, false, ◌≡◌, List, ℕ, ◌-◌, ◌≤◌, ◌<◌, eqb, length, get_or, set, Option, IfSome, MatchOption}
 use Rattle.laws.specs.Pick.{pick}
-use Rattle.format.specs.Format.{depth_limit}
 use Rattle.node.specs.Store.{nodes_in, parent_at}
-use Rattle.walk_order.specs.Walk.{walks, kid_above}
-use Rattle.tree_write.specs.declared.runs.Runs.{Runs}
+use Rattle.walk_order.specs.Walk.{kid_above}
 use Rattle.tree_write.specs.declared.runs.Kid.{Kid}
 use Rattle.tree_write.specs.Order.{before}
 use Rattle.tree_write.specs.Tree.{after, ahead}
@@ -20,16 +18,23 @@ pub record Early (ns nm : List ℕ) (p bound i : ℕ) : Type 0 where
   pub child : parent_at ns i ≡ p
   pub early : ahead ns nm i bound ≡ true
 
--- k is the last of them by name, or 0 and there is none
+-- none of them is left
+abbrev pub NoneLeft : List ℕ → List ℕ → ℕ → ℕ → Type 0
+NoneLeft ns nm p bound = (i : ℕ) → Early ns nm p bound i → ⊥
+
+-- k is the last of them by name
 pub record Last (ns nm : List ℕ) (p bound k : ℕ) : Type 0 where
-  pub found : (k ≡ 0 → ⊥) → Early ns nm p bound k
-  pub some : (i : ℕ) → Early ns nm p bound i → k ≡ 0 → ⊥
+  pub early : Early ns nm p bound k
   pub last : (i : ℕ) → Early ns nm p bound i → before ns nm k i ≡ true → ⊥
 
 -- the same, and what stands below it ends where it is said
 pub record Found (ns nm : List ℕ) (p bound : ℕ) (kid : Kid) : Type 0 where
   pub last : Last ns nm p bound kid.node
-  pub span : (kid.node ≡ 0 → ⊥) → Span ns kid.node kid.end
+  pub span : Span ns kid.node kid.end
+
+-- it is found, or none is left
+abbrev pub Finds : List ℕ → List ℕ → ℕ → ℕ → Option Kid → Type 0
+Finds ns nm p bound o = MatchOption o (NoneLeft ns nm p bound) (Found ns nm p bound)
 
 -- child c comes before the bound and after the last one so far
 unfoldable pub between : List ℕ → List ℕ → ℕ → ℕ → ℕ → Bool
@@ -50,31 +55,37 @@ pub data Run (ns nm : List ℕ) (p : ℕ) : ℕ → ℕ → Type 0 where
   ends : {x : ℕ} → Run ns nm p x x
   goes : {x j : ℕ} → (lead ns nm p x ≡ 0 → ⊥) → Run ns nm p (lead ns nm p x) j → Run ns nm p x j
 
+-- the tail at a place, 0 where none is left of its run, and where what stands below it ends
+abbrev pub nobody : Kid
+nobody = record { node = 0; end = 0 }
+
+abbrev pub tail_at : List Kid → ℕ → ℕ
+tail_at tails i = (get_or tails i nobody).node
+
+abbrev pub stop_at : List Kid → ℕ → ℕ
+stop_at tails i = (get_or tails i nobody).end
+
 -- j stands in a run whose tail is kept
-pub record Tailed (ns nm : List ℕ) (p used : ℕ) (tails : List ℕ) (j : ℕ) : Type 0 where
+pub record Tailed (ns nm : List ℕ) (p used : ℕ) (tails : List Kid) (j : ℕ) : Type 0 where
   pub place : ℕ
   pub low : place < used
-  pub some : get_or tails place 0 ≡ 0 → ⊥
-  pub run : Run ns nm p (get_or tails place 0) j
+  pub some : tail_at tails place ≡ 0 → ⊥
+  pub run : Run ns nm p (tail_at tails place) j
 
 -- each run stands before the one whose tail is kept before its own
-abbrev pub Apart : List ℕ → List ℕ → ℕ → ℕ → List ℕ → Type 0
-Apart ns nm p used tails =
-    (i j x : ℕ) → i < j → j < used → (get_or tails i 0 ≡ 0 → ⊥) → (get_or tails j 0 ≡ 0 → ⊥) → Run ns nm p (get_or tails i 0) x → get_or tails j 0 < x
+abbrev pub Apart : List ℕ → List ℕ → ℕ → ℕ → List Kid → Type 0
+Apart ns nm p used tails = (i j x : ℕ) → i < j → j < used → (tail_at tails i ≡ 0 → ⊥) → (tail_at tails j ≡ 0 → ⊥) → Run ns nm p (tail_at tails i) x → tail_at tails j < x
 
 -- the tails are children of p before the bound, and every such child stands in a run of theirs
-pub record Covers (ns nm : List ℕ) (p bound used : ℕ) (tails stops : List ℕ) : Type 0 where
-  pub live : (i : ℕ) → i < used → (get_or tails i 0 ≡ 0 → ⊥) → Early ns nm p bound (get_or tails i 0) × Span ns (get_or tails i 0) (get_or stops i 0)
+pub record Covers (ns nm : List ℕ) (p bound : ℕ) (tails : List Kid) (used : ℕ) : Type 0 where
+  pub few : used ≤ length tails
+  pub live : (i : ℕ) → i < used → (tail_at tails i ≡ 0 → ⊥) → Early ns nm p bound (tail_at tails i) × Span ns (tail_at tails i) (stop_at tails i)
   pub whole : (j : ℕ) → Early ns nm p bound j → Tailed ns nm p used tails j
   pub apart : Apart ns nm p used tails
 
--- what is known between two children
-pub record Ready (ns nm : List ℕ) (p end bound : ℕ) (runs : Runs) (tails stops : List ℕ) : Type 0 where
-  pub walk : walks depth_limit ns ≡ true
-  pub span : Span ns p end
-  pub few : runs.used ≤ length tails
-  pub beside : length stops ≡ length tails
-  pub covers : runs.quick ≡ true → Covers ns nm p bound runs.used tails stops
+-- what is known of the tails between two children: nothing, where there is no number of runs
+abbrev pub Ready : List ℕ → List ℕ → ℕ → ℕ → Option ℕ → List Kid → Type 0
+Ready ns nm p bound runs tails = IfSome runs (Covers ns nm p bound tails)
 
 -- ---- the last tail
 
@@ -82,26 +93,33 @@ pub record Ready (ns nm : List ℕ) (p end bound : ℕ) (runs : Runs) (tails sto
 unfoldable pub later : List ℕ → List ℕ → ℕ → ℕ → Bool
 later ns nm kid tail = pick (eqb tail 0) false (after ns nm kid tail)
 
--- at this place stands a tail that comes before no other, or it is `used` and there is none
-pub record Greatest (ns nm : List ℕ) (used : ℕ) (tails : List ℕ) (place : ℕ) : Type 0 where
-  pub low : place ≤ used
-  pub live : (place ≡ used → ⊥) → get_or tails place 0 ≡ 0 → ⊥
-  pub some : (i : ℕ) → i < used → (get_or tails i 0 ≡ 0 → ⊥) → place ≡ used → ⊥
-  pub last : (i : ℕ) → i < used → (get_or tails i 0 ≡ 0 → ⊥) → before ns nm (get_or tails place 0) (get_or tails i 0) ≡ true → ⊥
+-- no run has a child left
+abbrev pub AllDead : ℕ → List Kid → Type 0
+AllDead used tails = (i : ℕ) → i < used → tail_at tails i ≡ 0
+
+-- at this place stands a tail that comes before no other
+pub record Greatest (ns nm : List ℕ) (used : ℕ) (tails : List Kid) (place : ℕ) : Type 0 where
+  pub low : place < used
+  pub live : tail_at tails place ≡ 0 → ⊥
+  pub last : (i : ℕ) → i < used → (tail_at tails i ≡ 0 → ⊥) → before ns nm (tail_at tails place) (tail_at tails i) ≡ true → ⊥
 
 -- ---- a step
 
--- the last tail is taken: in its place stands the child before it in its run, and beside it where what stands below that ends
-pub record Stepped (ns nm : List ℕ) (p used : ℕ) (tails stops tails₁ stops₁ : List ℕ) (kid : Kid) : Type 0 where
+-- this tail is the last one, and is taken: in its place stands the child before it in its run, with where what stands below that ends
+pub record Step (ns nm : List ℕ) (p used : ℕ) (tails tails₁ : List Kid) (kid : Kid) : Type 0 where
   pub place : ℕ
   pub greatest : Greatest ns nm used tails place
-  pub none : place ≡ used → kid.node ≡ 0
-  pub node : (place ≡ used → ⊥) → kid.node ≡ get_or tails place 0
-  pub end : (place ≡ used → ⊥) → kid.end ≡ get_or stops place 0
-  pub moved : (place ≡ used → ⊥) → tails₁ ≡ set tails place (lead ns nm p kid.node)
-  pub beside : (place ≡ used → ⊥) → stops₁ ≡ set stops place kid.node
+  pub taken : kid ≡ get_or tails place nobody
+  pub moved : tails₁ ≡ set tails place (record { node = lead ns nm p (tail_at tails place); end = tail_at tails place })
+
+abbrev pub Stepped : List ℕ → List ℕ → ℕ → ℕ → List Kid → List Kid → Option Kid → Type 0
+Stepped ns nm p used tails tails₁ o = MatchOption o (AllDead used tails) (Step ns nm p used tails tails₁)
 
 -- what is known of a child that was taken
-pub record Taken (ns nm : List ℕ) (p end bound : ℕ) (runs : Runs) (tails stops : List ℕ) (kid : Kid) : Type 0 where
+pub record Taken (ns nm : List ℕ) (p bound : ℕ) (runs : Option ℕ) (tails : List Kid) (kid : Kid) : Type 0 where
   pub found : Found ns nm p bound kid
-  pub ready : (kid.node ≡ 0 → ⊥) → Ready ns nm p end kid.node runs tails stops
+  pub ready : Ready ns nm p kid.node runs tails
+
+-- one is taken, or none is left
+abbrev pub Takes : List ℕ → List ℕ → ℕ → ℕ → Option ℕ → List Kid → Option Kid → Type 0
+Takes ns nm p bound runs tails o = MatchOption o (NoneLeft ns nm p bound) (Taken ns nm p bound runs tails)

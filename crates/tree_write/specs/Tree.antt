@@ -1,12 +1,16 @@
 -- The bytes of a tree (01, Extensions and Writing, and tree/write.rs), over the length of an id and the depth: a node's head, its children in byte order of name,
 -- and a node with all that is below it. Defined for every table; only a proper one is written. Assumes nothing.
-use Rattle.std.specs.Prelude.{Bool, true, List, [], ◌∷◌, ◌++◌, ℕ, zero, suc, ◌+◌, ◌-◌, leb, eqb, length}
+use Rattle.std.specs.Prelude.{Bool, true, ◌≡◌, List, [], ◌∷◌, ◌++◌, ℕ, zero, suc, ◌+◌, ◌-◌, leb, eqb, length}
 use Rattle.laws.specs.Pick.{pick}
 use Rattle.laws.specs.Put.{put}
 use Rattle.wire.specs.Written.{digits_of}
 use Rattle.node.specs.Head.{minus_one}
 use Rattle.node.specs.Store.{nodes_in, count_at, subtrees_at, parent_at, id_at, name_at}
 use Rattle.tree_write.specs.Order.{before}
+
+-- the bytes are put at a place, and end where it is said
+abbrev pub Puts : List ℕ → ℕ → List ℕ → List ℕ → ℕ → Type 0
+Puts bytes at out new end = (end ≡ at + length bytes) × (new ≡ put out at bytes)
 
 -- ---- a node's head
 

@@ -1,115 +1,92 @@
 // The last child of a node in a table in walk order. The way to it from the last node below is kept, one node a level, so that along a way down each last
 // child is found with no climb of its own. What is kept is only believed of the leaf that stands beside it.
-ghost use Rattle.std.specs.Prelude.{true, ◌≡◌, ◌-◌, ◌≤◌, ◌<◌, length};
-ghost use Rattle.format.specs.Format.{depth_limit};
+ghost use Rattle.std.specs.Prelude.{◌≡◌, ◌-◌, ◌≤◌, ◌<◌, length};
 ghost use Rattle.node.specs.Store.{nodes_in};
-ghost use Rattle.walk_order.specs.Walk.{walks, kid_above};
+ghost use Rattle.walk_order.specs.Walk.{kid_above};
 ghost use Rattle.walk_order.specs.Below.{Above};
-ghost use Rattle.tree_write.specs.Span.{Span};
 ghost use Rattle.tree_write.specs.Spine.{Spine};
 
+use super::folder::Folder;
+
+// A node that is kept, and the leaf on whose way up it stands.
+#[derive(Clone, Copy)]
+pub struct Rung {
+    pub node: usize,
+    pub leaf: usize,
+}
+
 // A node on the way from a leaf up, and its place in the spine.
-#[derive(Drop)]
+#[derive(Clone, Copy)]
 pub struct Foot {
     pub node: usize,
     pub place: usize,
 }
 
-// The highest node on the way from the leaf up to p that is kept, or the leaf. The search down the spine and the climb from the leaf go in step, so that it
-// costs no more than the shorter of the two.
-fn find_foot(
-    nodes: &[u8],
-    p: usize,
-    leaf: usize,
-    depth: usize,
-    spine: &[usize],
-    leaves: &[usize],
-) -> Foot
-    requires le_depth { (1 ≤ depth) × (depth ≤ length spine.now) }
-    requires spine { Spine nodes.now spine.now leaves.now }
-    ensures { Above nodes.now result.node leaf × (result.place < depth) }
-{
-    let mut node = leaf;
-    let mut k = depth;
-    while 0 < k {
-        let place = k - 1;
-        let kept = leaves[place];
-        if kept == leaf {
-            let node = spine[place];
-            return Foot { node, place };
+impl<'a> Folder<'a> {
+    // The highest node on the way from the leaf up to the folder that is kept, or the leaf. The search down the spine and the climb from the leaf go in step, so
+    // that it costs no more than the shorter of the two.
+    fn find_foot(self, leaf: usize, depth: usize, spine: &[Rung]) -> Foot
+        requires depth { (1 ≤ depth) × (depth ≤ length spine.now) }
+        requires spine { Spine self.table.nodes.now spine.now }
+        ensures { Above self.entry.table.nodes.now result.node leaf × (result.place < depth) }
+    {
+        let mut node = leaf;
+        for place in (0..depth).rev() {
+            let kept = spine[place];
+            if kept.leaf == leaf {
+                return Foot {
+                    node: kept.node,
+                    place,
+                };
+            }
+            let up = node::parent(self.table.nodes, node);
+            if up == self.node as u64 {
+                return Foot { node: leaf, place };
+            }
+            node = up as usize;
         }
-        let up = node::parent(nodes, node);
-        if up == p as u64 {
-            return Foot { node: leaf, place };
+        Foot {
+            node: leaf,
+            place: 0,
         }
-        node = up as usize;
-        k -= 1;
     }
-    Foot {
-        node: leaf,
-        place: 0,
-    }
-}
 
-// Climbs from a node on the way to the last place, keeps the nodes that it comes to, and answers the one that it ends with.
-fn climb(
-    nodes: &[u8],
-    p: usize,
-    leaf: usize,
-    depth: usize,
-    from: Foot,
-    spine: &mut [usize],
-    leaves: &mut [usize],
-) -> usize
-    requires nodes_value { (walks depth_limit nodes.now ≡ true) × (leaf < nodes_in nodes.now) }
-    requires above { Above nodes.now from.node leaf × (from.place < depth) }
-    requires spine { Spine nodes.now spine.old leaves.old × (depth ≤ length spine.old) }
-    ensures { Above nodes.now result leaf × Spine nodes.now spine.new leaves.new }
-{
-    let mut node = from.node;
-    let mut k = from.place;
-    while k < depth {
-        spine[k] = node;
-        leaves[k] = leaf;
-        let up = node::parent(nodes, node);
-        if up == p as u64 {
-            return node;
+    // Climbs from a node on the way to the last place, keeps the nodes that it comes to, and answers the one that it ends with.
+    fn climb(self, leaf: usize, depth: usize, from: Foot, spine: &mut [Rung]) -> usize
+        requires leaf { leaf < nodes_in self.table.nodes.now }
+        requires above { Above self.table.nodes.now from.node leaf × (from.place < depth) }
+        requires spine { Spine self.table.nodes.now spine.old × (depth ≤ length spine.old) }
+        ensures { Above self.entry.table.nodes.now result leaf × Spine self.entry.table.nodes.now spine.new }
+    {
+        let mut node = from.node;
+        for k in from.place..depth {
+            spine[k] = Rung { node, leaf };
+            let up = node::parent(self.table.nodes, node);
+            if up == self.node as u64 || node <= self.node {
+                return node;
+            }
+            node = up as usize;
         }
-        if node <= p {
-            return node;
-        }
-        node = up as usize;
-        k += 1;
+        node
     }
-    node
-}
 
-// The last child of p, below which stand the nodes before `end`; 0 where there is none.
-pub fn last_kid(
-    nodes: &[u8],
-    p: usize,
-    end: usize,
-    depth: usize,
-    spine: &mut [usize],
-    leaves: &mut [usize],
-) -> usize
-    requires nodes_value { (walks depth_limit nodes.now ≡ true) × Span nodes.now p end }
-    requires le_depth { (1 ≤ depth) × (depth ≤ length spine.old) }
-    requires spine { Spine nodes.now spine.old leaves.old }
-    ensures value { result ≡ kid_above nodes.now p (end - 1) }
-    ensures spine_2 { Spine nodes.now spine.new leaves.new }
-{
-    let leaf = end - 1;
-    if leaf == p {
-        return 0;
-    }
-    let from = find_foot(nodes, p, leaf, depth, &*spine, &*leaves);
-    let kid = climb(nodes, p, leaf, depth, from, spine, leaves);
-    let up = node::parent(nodes, kid);
-    if up == p as u64 {
-        if p < kid {
-            return kid;
+    // The last child; 0 where there is none: it is the definition `kid_above`, which theorems cite.
+    pub fn last_kid(self, depth: usize, spine: &mut [Rung]) -> usize
+        requires depth { (1 ≤ depth) × (depth ≤ length spine.old) }
+        requires spine { Spine self.table.nodes.now spine.old }
+        ensures kid { result ≡ kid_above self.entry.table.nodes.now self.entry.node (self.entry.end - 1) }
+        ensures kept { Spine self.entry.table.nodes.now spine.new }
+    {
+        let leaf = self.end - 1;
+        if leaf == self.node {
+            return 0;
+        }
+        let from = self.find_foot(leaf, depth, &*spine);
+        let kid = self.climb(leaf, depth, from, spine);
+        if node::parent(self.table.nodes, kid) == self.node as u64 && self.node < kid {
+            kid
+        } else {
+            walk_order::kid_above(self.table.nodes, self.node, leaf)
         }
     }
-    walk_order::kid_above(nodes, p, leaf)
 }

@@ -1,11 +1,8 @@
 -- Laws of the pass that tells how deep the nodes of a table stand, turned the way that the needs ask. Assumes nothing.
-use mathlib.Core.Bool.{Bool, true, false}
-use mathlib.Core.Path.{◌≡◌, refl, sym, ap, ◌∙◌, subst, subst₂}
-use mathlib.Core.List.{List}
-use Prim.Native.Nat.{ℕ, zero, suc, ◌+◌, ◌-◌, ◌≤◌, ◌<◌}
-use native.Mathlib.Omega.{arith}
-use lib.Dec.{eqb}
-use borrow.Author.Tests.{le-ltb, eq-eqb, ne_eqb}
+use Rattle.std.specs.Prelude.{Bool, true, false, cond, ◌≡◌, refl, List, Option, Some, None, ℕ, zero, suc, ◌+◌, ◌-◌, ◌≤◌, ◌<◌, eqb}
+use Rattle.std.proofs.Math.Path.{subst₂}
+use Rattle.std.proofs.Common.{sym, ap, ◌∙◌, subst, arith, le-ltb, eq-eqb, ne_eqb}
+use Rattle.laws.specs.Tests.{Same, same, differs, same?}
 use Rattle.laws.specs.Pick.{pick}
 use Rattle.format.specs.Format.{depth_limit}
 use Rattle.node.specs.Store.{nodes_in, parent_at}
@@ -38,7 +35,7 @@ module _ (ns : List ℕ) (from depth to node left : ℕ) (inv : Climbing ns from
       record {
         level = subst (λ (x : ℕ). Level ns (left - 1) x) (sym e) (level_up inv.level (omega arith));
         small = omega (arith, inv.small);
-        run = ap (λ (k : ℕ). climbs_to ns k up to) (sym z) ∙ climb_up ns (left + (depth_limit - depth)) node to (climbs_to ns depth_limit from to) inv.run (omega arith) h up e;
+        run = ap (λ (k : ℕ). climbs_to ns k up to) (sym z) ∙ climb_up ns (left + (depth_limit - depth)) node to (climbs_to ns depth_limit from to) inv.run (omega arith) h up (left + (depth_limit - depth) - 1) e refl;
       }
 
   ends : (k : ℕ) → 1 ≤ k → node ≤ to → climbs_to ns k node to ≡ pick (eqb node to) true false
@@ -53,18 +50,18 @@ module _ (ns : List ℕ) (from depth to node left : ℕ) (inv : Climbing ns from
   end : node ≤ to → climbs_to ns depth_limit from to ≡ pick (eqb node to) true false
   end h = let some : 1 ≤ left = climbing_some in sym inv.run ∙ ends (left + (depth_limit - depth)) (omega arith) h
 
-  pub climbing_there : node ≤ to → node ≡ to → Climbed ns from to left
-  climbing_there h e = record {
-    small = inv.small;
-    lost = λ z. let some : 1 ≤ left = climbing_some in absurd (none some z);
-    found = λ z. (end h ∙ rw (eq-eqb node to e), subst (λ (x : ℕ). Level ns left x) e inv.level);
-  }
+  pub climbing_end : node ≤ to → (r : Option ℕ) → r ≡ cond (eqb node to) (Some left) None → Climbed ns from to r
+  climbing_end h r e = by (same? node to) e
     where
-      none : 1 ≤ left → left ≡ 0 → ⊥
-      none a b = omega arith
-
-  pub climbing_missed : node ≤ to → (node ≡ to → ⊥) → Climbed ns from to 0
-  climbing_missed h d = record { small = omega arith; lost = λ z. end h ∙ rw (ne_eqb node to d); found = λ z. absurd (z refl) }
+      by : {t : Bool} → Same node to t → r ≡ cond t (Some left) None → Climbed ns from to r
+      by (same q) e = record {
+        lost = λ z. let clash : ◌≡◌ {A = Option ℕ} (Some left) None = sym e ∙ z in cc;
+        found = λ up z. let z : left ≡ up = cc in (end h ∙ rw (eq-eqb node to q), subst₂ (λ (k x : ℕ). Level ns k x) z q inv.level, omega (arith, inv.small));
+      }
+      by (differs d) e = record {
+        lost = λ z. end h ∙ rw (ne_eqb node to d);
+        found = λ up z. let clash : ◌≡◌ {A = Option ℕ} None (Some up) = sym e ∙ z in cc;
+      }
 
 -- ---- the pass
 
@@ -96,7 +93,7 @@ module _ (ns : List ℕ) (n depth j : ℕ) (inv : Deepening ns n depth j) where
   pub deepening_level : (b : ℕ) → b ≡ j - 1 → Level ns depth b
   deepening_level b e = subst (λ (x : ℕ). Level ns depth x) (sym e) inv.level
 
-  module _ (h : j < n) (p b : ℕ) (ep : p ≡ parent_at ns j) (eb : b ≡ j - 1) (up : ℕ) (climbed : Climbed ns b p up) where
+  module _ (h : j < n) (p b : ℕ) (ep : p ≡ parent_at ns j) (eb : b ≡ j - 1) (r : Option ℕ) (climbed : Climbed ns b p r) where
     moved : {t : Bool} → climbs_to ns depth_limit b p ≡ t → climbs_to ns depth_limit (j - 1) (parent_at ns j) ≡ t
     moved {t} = λ q. sym (λ k. climbs_to ns depth_limit (eb k) (ep k)) ∙ q
 
@@ -104,12 +101,12 @@ module _ (ns : List ℕ) (n depth j : ℕ) (inv : Deepening ns n depth j) where
     unfolding walks_from all_in
     cut = let z : n - j ≡ suc (n - (j + 1)) = omega arith in rw z at inv.run
 
-    pub deepening_lost : up ≡ 0 → false ≡ walks_within depth_limit ns
+    pub deepening_lost : r ≡ None → false ≡ walks_within depth_limit ns
     deepening_lost z = sym (rw (moved (climbed.lost z))) ∙ cut
 
-    module _ (some : up ≡ 0 → ⊥) where
+    module _ (up : ℕ) (some : r ≡ Some up) where
       level_here : Level ns (suc up) j
-      level_here = let low : 1 ≤ j = inv.low in below {j = j} (omega arith) (sym ep) (climbed.found some).1
+      level_here = let low : 1 ≤ j = inv.low in below {j = j} (omega arith) (sym ep) (climbed.found up some).1
 
       pub deepening_deep : up ≡ depth_limit → false ≡ walks_within depth_limit ns
       deepening_deep z = by (climbs ns depth_limit j) refl (walks_from depth_limit ns (n - (j + 1)) (j + 1)) (all_in (climbs ns depth_limit) (n - (j + 1)) (j + 1)) (climbs_to ns depth_limit (j - 1) (parent_at ns j)) cut
@@ -127,14 +124,14 @@ module _ (ns : List ℕ) (n depth j : ℕ) (inv : Deepening ns n depth j) where
           by false e a b false q = q
 
       pub deepening_small : (up ≡ depth_limit → ⊥) → up + 1 ≤ depth_limit
-      deepening_small z = omega (arith, climbed.small)
+      deepening_small z = let small : up ≤ depth_limit = (climbed.found up some).2 in omega arith
 
       pub deepening_more : (up ≡ depth_limit → ⊥) → Deepening ns n (up + 1) (j + 1)
       deepening_more z = record {
         low = omega arith;
         level = let a : suc up ≡ up + 1 = omega arith in let b : j ≡ j + 1 - 1 = omega arith in subst₂ (λ (k i : ℕ). Level ns k i) a b level_here;
         within = deepening_small z;
-        run = sym (rw (moved (climbed.found some).0, level_climbs level_here depth_limit (omega (arith, deepening_small z)))) ∙ cut;
+        run = sym (rw (moved (climbed.found up some).0, level_climbs level_here depth_limit (omega (arith, deepening_small z)))) ∙ cut;
       }
 
-pub ruleset depth-laws = (climbing_start, climbing_some, climbing_less, climbing_up, climbing_there, climbing_missed, deepening_start, deepening_end, deepening_level, deepening_lost, deepening_deep, deepening_small, deepening_more)
+pub ruleset depth-laws = (climbing_start, climbing_some, climbing_less, climbing_up, climbing_end, deepening_start, deepening_end, deepening_level, deepening_lost, deepening_deep, deepening_small, deepening_more)

@@ -1,5 +1,5 @@
 -- Laws of the walk order's definitions, turned the way that the needs ask. Assumes nothing.
-use mathlib.Core.Bool.{Bool, true, false}
+use mathlib.Core.Bool.{Bool, false}
 use mathlib.Core.Path.{◌≡◌, refl, sym, ap, ◌∙◌}
 use mathlib.Core.List.{List}
 use Prim.Native.Nat.{ℕ, zero, suc, ◌+◌, ◌-◌, ◌≤◌, ◌<◌}
@@ -10,6 +10,7 @@ use Rattle.laws.specs.Pick.{pick}
 use Rattle.format.specs.Format.{depth_limit}
 use Rattle.node.specs.Store.{nodes_in, parent_at}
 use Rattle.walk_order.specs.Walk.{climbs_to, walks_from, walks, kid_from, kid_above}
+use Rattle.walk_order.specs.Depth.{all_in}
 use Rattle.walk_order.specs.Kid.{kid_enough}
 
 -- ---- a climb
@@ -27,35 +28,25 @@ module _ (ns : List ℕ) (left i q : ℕ) (r : Bool) (inv : climbs_to ns left i 
   unfolding climbs_to
   climb_there h k t e = let z : left ≡ suc (left - 1) = omega arith in e ∙ sym (rw (z, le-ltb q i k)) ∙ inv
 
-  pub climb_up : 0 < left → q < i → (p : ℕ) → p ≡ parent_at ns i → climbs_to ns (left - 1) p q ≡ r
-  climb_up h k p e =
-      let z : suc (left - 1) ≡ left = omega arith in
-      ap (λ (x : ℕ). climbs_to ns (left - 1) x q) e ∙ climb_step ns (left - 1) i q k ∙ ap (λ (x : ℕ). climbs_to ns x i q) z ∙ inv
+  pub climb_up : 0 < left → q < i → (p next : ℕ) → p ≡ parent_at ns i → next ≡ left - 1 → climbs_to ns next p q ≡ r
+  climb_up h k p next e f =
+      let z : suc next ≡ left = omega arith in
+      ap (λ (x : ℕ). climbs_to ns next x q) e ∙ climb_step ns next i q k ∙ ap (λ (x : ℕ). climbs_to ns x i q) z ∙ inv
 
 -- ---- the pass over the table
 
-pub walk_start : (ns : List ℕ) (n : ℕ) → n ≡ nodes_in ns → walks_from depth_limit ns (n - 1) 1 ≡ walks depth_limit ns
+-- node j does as walk order asks
+abbrev pub follows : List ℕ → ℕ → Bool
+follows ns j = climbs_to ns depth_limit (j - 1) (parent_at ns j)
+
+walk_all : (ns : List ℕ) (k j : ℕ) → all_in (follows ns) k j ≡ walks_from depth_limit ns k j
+unfolding all_in walks_from
+walk_all ns zero j = refl
+walk_all ns (suc k) j = ap (λ (t : Bool). pick (follows ns j) t false) (walk_all ns k (j + 1))
+
+pub walk_is : (ns : List ℕ) (n : ℕ) → n ≡ nodes_in ns → all_in (follows ns) (n - 1) 1 ≡ walks depth_limit ns
 unfolding walks
-walk_start ns n e = rw e
-
-module _ (ns : List ℕ) (n j : ℕ) (r : Bool) (inv : walks_from depth_limit ns (n - j) j ≡ r) where
-  pub walk_end : n ≤ j → true ≡ r
-  unfolding walks_from
-  walk_end h = let z : n - j ≡ 0 = omega arith in rw z at inv
-
-  module _ (h : j < n) (p b : ℕ) (ep : p ≡ parent_at ns j) (eb : b ≡ j - 1) (t : Bool) (et : t ≡ climbs_to ns depth_limit b p) where
-    cut : pick t (walks_from depth_limit ns (n - (j + 1)) (j + 1)) false ≡ r
-    unfolding walks_from
-    cut =
-        let z : n - j ≡ suc (n - (j + 1)) = omega arith in
-        let s : t ≡ climbs_to ns depth_limit (j - 1) (parent_at ns j) = et ∙ (λ k. climbs_to ns depth_limit (eb k) (ep k)) in
-        sym (rw (z, ← s)) ∙ inv
-
-    pub walk_more : t ≡ true → walks_from depth_limit ns (n - (j + 1)) (j + 1) ≡ r
-    walk_more k = sym (ap (λ (x : Bool). pick x (walks_from depth_limit ns (n - (j + 1)) (j + 1)) false) k) ∙ cut
-
-    pub walk_not : t ≡ false → false ≡ r
-    walk_not k = sym (ap (λ (x : Bool). pick x (walks_from depth_limit ns (n - (j + 1)) (j + 1)) false) k) ∙ cut
+walk_is ns n e = walk_all ns (n - 1) 1 ∙ rw e
 
 -- ---- the climb to a child
 
@@ -86,4 +77,4 @@ module _ (ns : List ℕ) (p x r : ℕ) (inv : kid_from ns p x x ≡ r) where
     pub kid_up : (q ≡ p → ⊥) → q < x → kid_from ns p q q ≡ r
     kid_up k l = kid_enough ns p q (x - 1) q (omega arith) (omega arith) ∙ sym (rw (ne_eqb q p k, lt-leb x q l)) ∙ cut_kid
 
-pub ruleset laws = (climb_none, climb_there, climb_up, walk_start, walk_end, walk_more, walk_not, kid_start, kid_end, kid_here, kid_lost, kid_up)
+pub ruleset laws = (climb_none, climb_there, climb_up, kid_start, kid_end, kid_here, kid_lost, kid_up)

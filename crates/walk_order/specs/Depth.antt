@@ -1,10 +1,11 @@
 -- How deep the nodes of a table stand (01, Writing: "depth is at most 64", by 02, A2, 512; the root has depth 1), and the tables in walk order in which no node stands too deep. Over
 -- the depth. Assumes nothing.
-use Rattle.std.specs.Prelude.{Bool, true, false, ◌≡◌, refl, List, eqb}
+use Rattle.std.specs.Prelude.{Bool, true, false, ◌≡◌, refl, Option, Some, None, List, eqb, ◌&&◌}
 use Rattle.std.proofs.Math.Path.{sym}
 use Rattle.std.proofs.Common.{ap, ◌∙◌, subst, ⊎_elim, ne_eqb}
 use Prim.Native.Nat.{ℕ, zero, suc, ◌+◌, ◌-◌, ◌≤◌, ◌<◌}
 use native.Mathlib.Omega.{arith}
+use Rattle.std.specs.List.{list_all, range_with_len}
 use Rattle.laws.specs.Pick.{pick}
 use Rattle.laws.specs.Tests.{lt_or_ge}
 use Rattle.node.specs.Store.{nodes_in, parent_at}
@@ -44,6 +45,16 @@ pub each_all : (p : ℕ → Bool) (n i : ℕ) → ((k : ℕ) → i ≤ k → k <
 unfolding all_in
 each_all p zero i h = refl
 each_all p (suc n) i h = rw (h i (omega arith) (omega arith)) (each_all p n (i + 1) (λ k l m. h k (omega arith) (omega arith)))
+
+-- the library's `all` over a range
+pub all_is : (p : ℕ → Bool) (n i : ℕ) → list_all p (range_with_len i n) ≡ all_in p n i
+unfolding all_in
+all_is p zero i = refl
+all_is p (suc n) i = by (p i) (all_is p n (i + 1))
+  where
+    by : (t : Bool) → list_all p (range_with_len (i + 1) n) ≡ all_in p n (i + 1) → (t && list_all p (range_with_len (i + 1) n)) ≡ pick t (all_in p n (i + 1)) false
+    by true h = h
+    by false h = refl
 
 -- what is left of a test of all numbers before n, from i on
 module _ (p : ℕ → Bool) (n i : ℕ) (r : Bool) (inv : all_in p (n - i) i ≡ r) where
@@ -109,9 +120,8 @@ level_climbs {ns} (below {j = j} a p l) (suc levels) h =
     let d : j ≡ 0 → ⊥ = λ e. omega arith in
     rw (ne_eqb j 0 d) (subst (λ (x : ℕ). climbs ns levels x ≡ true) (sym p) (level_climbs l levels (omega arith)))
 
--- ---- a climb from node `from`: how deep its end stands, or 0 where it is not reached
+-- ---- a climb from node `from`: how deep its end stands, where it is reached
 
-pub record Climbed (ns : List ℕ) (from to r : ℕ) : Type 0 where
-  pub small : r ≤ depth_limit
-  pub lost : r ≡ 0 → climbs_to ns depth_limit from to ≡ false
-  pub found : (r ≡ 0 → ⊥) → (climbs_to ns depth_limit from to ≡ true) × Level ns r to
+pub record Climbed (ns : List ℕ) (from to : ℕ) (r : Option ℕ) : Type 0 where
+  pub lost : r ≡ None → climbs_to ns depth_limit from to ≡ false
+  pub found : (up : ℕ) → r ≡ Some up → (climbs_to ns depth_limit from to ≡ true) × Level ns up to × (up ≤ depth_limit)

@@ -13,84 +13,65 @@ fn climbs_to(nodes: &[u8], from: usize, to: usize) -> bool
     ensures { result ≡ climbs_to nodes.now depth_limit from to }
 {
     let mut node = from;
-    let mut left = format::DEPTH_LIMIT;
-    while 0 < left {
+    for _ in 0..format::DEPTH_LIMIT {
         if node <= to {
             return node == to;
         }
-        let up = node::parent(nodes, node);
-        node = up as usize;
-        left -= 1;
+        node = node::parent(nodes, node) as usize;
     }
     false
 }
 
-// Whether the table is in walk order: the parent of each node but the first is the node before it, or is reached from there. Each climb goes over nodes that no later
-// one goes over again, so the test costs one pass.
+// Whether the table is in walk order: the parent of each node but the first is the node before it, or is reached from there. Each climb goes over nodes that
+// no later one goes over again, so the test costs one pass.
 pub fn in_walk_order(nodes: &[u8]) -> bool
     ensures { result ≡ walks depth_limit nodes.now }
 {
-    let n = node::nodes_in(nodes);
-    let mut j: usize = 1;
-    while j < n {
-        let p = node::parent(nodes, j);
-        let before = j - 1;
-        if climbs_to(nodes, before, p as usize) {
-            j += 1;
-        } else {
-            return false;
-        }
-    }
-    true
+    (1..node::nodes_in(nodes)).all(|j| climbs_to(nodes, j - 1, node::parent(nodes, j) as usize))
 }
 
-// How deep node `to` stands, where it is `from`, which stands so deep, or is reached from there by parents; 0 where it is not.
-fn depth_above(nodes: &[u8], from: usize, depth: usize, to: usize) -> usize
+// How deep node `to` stands, where it is `from`, which stands so deep, or is reached from there by parents.
+fn depth_above(nodes: &[u8], from: usize, depth: usize, to: usize) -> Option<usize>
     requires { Level nodes.now depth from × (depth ≤ depth_limit) }
     ensures { Climbed nodes.now from to result }
 {
     let mut node = from;
     let mut left = depth;
+    // a walk by parents, as the one below: no place is counted
     while to < node {
-        let up = node::parent(nodes, node);
-        node = up as usize;
+        node = node::parent(nodes, node) as usize;
         left -= 1;
     }
-    if node == to {
-        return left;
-    }
-    0
+    (node == to).then_some(left)
 }
 
-// Whether the table is in walk order and no node stands too deep. How deep a node stands follows from the climb to its parent, so this costs no more than the order alone.
+// Whether the table is in walk order and no node stands too deep. How deep a node stands follows from the climb to its parent, so this costs no more than the
+// order alone.
 pub fn walks_within(nodes: &[u8]) -> bool
     ensures { result ≡ walks_within depth_limit nodes.now }
 {
-    let n = node::nodes_in(nodes);
     let mut depth: usize = 1;
-    let mut j: usize = 1;
-    while j < n {
-        let p = node::parent(nodes, j);
-        let before = j - 1;
-        let up = depth_above(nodes, before, depth, p as usize);
-        if up == 0 {
+    for j in 1..node::nodes_in(nodes) {
+        let parent = node::parent(nodes, j) as usize;
+        let Some(up) = depth_above(nodes, j - 1, depth, parent) else {
             return false;
-        }
+        };
         if up == format::DEPTH_LIMIT {
             return false;
         }
         depth = up + 1;
-        j += 1;
     }
     true
 }
 
-// The child of p that x is or stands below, or 0. In walk order this is the last child of p at x or before: the climb from the node before a child leads to the child
-// before it. A climb ends that comes to p or before it, or to a node whose parent does not stand before it.
+// The child of p that x is or stands below, or 0, which is nobody's child. In walk order this is the last child of p at x or before: the climb from the node
+// before a child leads to the child before it. A climb ends that comes to p or before it, or to a node whose parent does not stand before it.
+// It answers no Option, since the definition `kid_above`, which the theorems on written trees cite, says 0.
 pub fn kid_above(nodes: &[u8], p: usize, x: usize) -> usize
     ensures { result ≡ kid_above nodes.now p x }
 {
     let mut node = x;
+    // a walk by parents: no place is counted
     while p < node {
         let up = node::parent(nodes, node);
         if up == p as u64 {

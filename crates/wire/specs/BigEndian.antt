@@ -18,13 +18,6 @@ unfoldable pub bytes_of : ℕ → ℕ → List ℕ
 bytes_of zero x = []
 bytes_of (suc w) x = bytes_of w (x / 256) ++ (x % 256 ∷ [])
 
--- the four bytes of x in the other order, and the eight
-abbrev pub swap_bytes32 : ℕ → ℕ
-swap_bytes32 x = (((x % 256) * 256 + x / 256 % 256) * 256 + x / 256 / 256 % 256) * 256 + x / 256 / 256 / 256
-
-abbrev pub swap_bytes64 : ℕ → ℕ
-swap_bytes64 x = swap_bytes32 (x % 4294967296) * 4294967296 + swap_bytes32 (x / 4294967296)
-
 pub length-bytes : (w x : ℕ) → length (bytes_of w x) ≡ w
 unfolding bytes_of
 length-bytes zero x = refl

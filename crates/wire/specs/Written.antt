@@ -1,7 +1,7 @@
 -- A number written in the fewest digits of a base (01, Writing: TREE's counts are decimal; refusals are printed in decimal), over the base, with the law that it
 -- has a digit at least. Assumes nothing.
-use Rattle.std.specs.Prelude.{◌≡◌, List, [], ◌∷◌, ◌++◌, ℕ, zero, suc, ◌+◌, ◌/◌, ◌%◌, ◌≤◌, ◌<◌, ltb, length}
-use Rattle.std.proofs.Common.{sym, ap, ◌∙◌, arith, length-append, lt-ltb, le-ltb, ⊎_elim}
+use Rattle.std.specs.Prelude.{◌≡◌, refl, List, [], ◌∷◌, ◌++◌, ℕ, zero, suc, ◌+◌, ◌/◌, ◌%◌, ◌*◌, ◌^◌, max, ◌≤◌, ◌<◌, ltb, length}
+use Rattle.std.proofs.Common.{pow-suc, sym, ap, ◌∙◌, arith, length-append, lt-ltb, le-ltb, ⊎_elim}
 use Rattle.std.proofs.Math.Nat.{div-lt_self}
 use Rattle.laws.specs.Pick.{pick}
 use Rattle.laws.specs.Tests.{lt_or_ge}
@@ -47,3 +47,16 @@ size_one x h = sym (ap length (digits_one 10 x h))
 
 pub size_more : (x : ℕ) → 10 ≤ x → length (digits_of 10 x) ≡ length (digits_of 10 (x / 10)) + 1
 size_more x h = ap length (digits_more 10 x (omega arith) h) ∙ length-append (digits_of 10 (x / 10)) ((48 + x % 10) ∷ [])
+
+tens : (k : ℕ) → 0 < 10 ^ k
+tens zero = let e : 10 ^ 0 ≡ 1 = refl in omega arith
+tens (suc k) = omega (arith, pow-suc 10 k, tens k)
+
+-- a number below 10 ^ (k + 1) and not below 10 ^ k has k + 1 digits; 0 has one
+pub size_between : (k x : ℕ) → 10 ^ k ≤ max x 1 → max x 1 < 10 * 10 ^ k → k + 1 ≡ length (digits_of 10 x)
+size_between zero x l h = let e : 10 ^ 0 ≡ 1 = refl in size_one x (omega arith)
+size_between (suc k) x l h =
+    let p : 10 ^ suc k ≡ 10 ^ k * 10 = pow-suc 10 k in
+    let q : 0 < 10 ^ k = tens k in
+    let ten : 10 ≤ x = omega arith in
+    omega (arith, size_more x ten, size_between k (x / 10) (omega arith) (omega arith))

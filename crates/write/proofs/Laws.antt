@@ -2,7 +2,8 @@
 use Prim.Native.Nat.{ℕ, ◌+◌, ◌≤◌}
 use mathlib.Core.Bool.{Bool, true, false}
 use mathlib.Core.Path.{◌≡◌, refl, sym, ap, ◌∙◌}
-use mathlib.Core.List.{List, ◌++◌}
+use mathlib.Core.List.{List, [], ◌++◌}
+use Rattle.std.specs.Prelude.{Option, Some, None}
 use native.Mathlib.Omega.{arith}
 use lib.ListN.{length, take, drop, replicate, length-append, length-replicate}
 use lib.Seq.{paste, length-paste, take_at}
@@ -10,7 +11,7 @@ use Rattle.laws.specs.Put.{put, put_none, put_front, put_put, length-put, paste_
 use Rattle.wire.specs.BigEndian.{bytes_of, length-bytes}
 use Rattle.sha1_hash.specs.Sha1.{sha1}
 use Rattle.format.specs.Format.{id_size}
-use Rattle.write.specs.File.{extension_head, tree_signature, sparse_signature, eoie_signature, tree_head, sparse_part, heads_of, eoie_part, trailer_of}
+use Rattle.write.specs.File.{extension_head, tree_signature, sparse_signature, eoie_signature, tree_head, tree_head_with, sparse_part, heads_of, eoie_part, trailer_of}
 use Rattle.sha1_hash.specs.Length.{length-sha1}
 use Rattle.kind.specs.Sha1.{sha1_kind}
 use Rattle.write.specs.Parts.{length-head, length_eoie}
@@ -47,26 +48,33 @@ module _ (sparse : Bool) where
   unfolding sparse_part
   sparse_same h d k = rw h (sym (put_none d k))
 
-module _ (writes : Bool) (size : ℕ) where
-  pub tree_room : writes ≡ true → (k m : ℕ) → k + length (tree_head writes size) ≤ m → k + 8 ≤ m
+module _ (tree : Option ℕ) where
+  headed : (size : ℕ) → tree ≡ Some size → tree_head_with tree ≡ extension_head tree_signature size
   unfolding tree_head
-  tree_room h k m r = let l : length (tree_head writes size) ≡ 8 = rw h (length-head tree_signature size refl) in omega arith
+  headed size e = ap (λ (t : Option ℕ). tree_head_with t) e
 
-  pub tree_next : writes ≡ true → (k r : ℕ) → r ≡ k + 8 → r ≡ k + length (tree_head writes size)
+  unheaded : tree ≡ None → tree_head_with tree ≡ []
   unfolding tree_head
-  tree_next h k r e = let l : length (tree_head writes size) ≡ 8 = rw h (length-head tree_signature size refl) in omega arith
+  unheaded e = ap (λ (t : Option ℕ). tree_head_with t) e
 
-  pub tree_put : writes ≡ true → (d d₁ : List ℕ) (k : ℕ) → d₁ ≡ put d k (extension_head tree_signature size) → d₁ ≡ put d k (tree_head writes size)
-  unfolding tree_head
-  tree_put h d d₁ k e = rw h e
+  module _ (size : ℕ) (e : tree ≡ Some size) where
+    eight : length (tree_head_with tree) ≡ 8
+    eight = ap length (headed size e) ∙ length-head tree_signature size refl
 
-  pub tree_none : writes ≡ false → (k : ℕ) → k ≡ k + length (tree_head writes size)
-  unfolding tree_head
-  tree_none h k = rw h (omega arith)
+    pub tree_room : (k m : ℕ) → k + length (tree_head_with tree) ≤ m → k + 8 ≤ m
+    tree_room k m r = omega (arith, eight)
 
-  pub tree_same : writes ≡ false → (d : List ℕ) (k : ℕ) → d ≡ put d k (tree_head writes size)
-  unfolding tree_head
-  tree_same h d k = rw h (sym (put_none d k))
+    pub tree_next : (k r : ℕ) → r ≡ k + 8 → r ≡ k + length (tree_head_with tree)
+    tree_next k r e₁ = omega (arith, eight)
+
+    pub tree_put : (d d₁ : List ℕ) (k : ℕ) → d₁ ≡ put d k (extension_head tree_signature size) → d₁ ≡ put d k (tree_head_with tree)
+    tree_put d d₁ k e₁ = e₁ ∙ ap (λ (l : List ℕ). put d k l) (sym (headed size e))
+
+  pub tree_none : tree ≡ None → (k : ℕ) → k ≡ k + length (tree_head_with tree)
+  tree_none e k = omega (arith, ap length (unheaded e))
+
+  pub tree_same : tree ≡ None → (d : List ℕ) (k : ℕ) → d ≡ put d k (tree_head_with tree)
+  tree_same e d k = sym (put_none d k) ∙ ap (λ (l : List ℕ). put d k l) (sym (unheaded e))
 
 pub short_tree : (writes : Bool) (size : ℕ) → length (tree_head writes size) ≤ 8
 unfolding tree_head

@@ -1,15 +1,16 @@
 -- Laws of the whole file, turned the way that the needs ask. Assumes nothing.
-use Prim.Native.Nat.{ℕ, ◌+◌, ◌≤◌, ◌<◌}
+use Prim.Native.Nat.{ℕ, ◌+◌, ◌≤◌, ◌<◌, min}
 use mathlib.Core.Bool.{Bool, true, false}
 use mathlib.Core.Path.{◌≡◌, refl, sym, ap, ◌∙◌}
 use mathlib.Core.List.{List, [], ◌∷◌, ◌++◌, append_assoc}
 use native.Mathlib.Omega.{arith}
+use Rattle.std.specs.Prelude.{Option, Some, None, is_some, unwrap_or}
 use lib.ListN.{length, take, drop, length-append}
 use lib.Seq.{paste, take_at, length-take-le}
 use borrow.Author.Tests.{lt-ltb, le-ltb, le-leb}
 use Rattle.laws.specs.Put.{put_then, put, put_none, put_front, length-put, paste_put}
 use Rattle.wire.specs.BigEndian.{bytes_of, length-bytes}
-use Rattle.sums.specs.Cap.{cap, cap_fits, cap_cap, cap_cap_right}
+use Rattle.sums.specs.Cap.{cap, cap_fits, cap_cap, cap_cap_right, largest, min_cap}
 use Rattle.format.specs.Format.{depth_limit, id_size}
 use Rattle.kind.specs.Sha1.{sha1_kind}
 use Rattle.entry.specs.Paths.{Paths}
@@ -88,17 +89,32 @@ module _ (ns nm : List ℕ) (writes : Bool) where
   pub length_unwritten : writes ≡ false → 0 ≡ cap (length (tree_of id_size depth_limit ns nm writes))
   length_unwritten h = sym (ap (λ (t : List ℕ). cap (length t)) (unwritten h) ∙ cap_fits 0 (omega arith))
 
-  pub put_written : writes ≡ true → (d d₁ : List ℕ) (k : ℕ) → k + length (tree_of id_size depth_limit ns nm writes) ≤ length d → d₁ ≡ put_fit d k (tree_bytes id_size depth_limit ns nm) → d₁ ≡ put d k (tree_of id_size depth_limit ns nm writes)
+  put_written : writes ≡ true → (d d₁ : List ℕ) (k : ℕ) → k + length (tree_of id_size depth_limit ns nm writes) ≤ length d → d₁ ≡ put_fit d k (tree_bytes id_size depth_limit ns nm) → d₁ ≡ put d k (tree_of id_size depth_limit ns nm writes)
   unfolding put_fit
   put_written h d d₁ k room e =
       let l : k + length (tree_bytes id_size depth_limit ns nm) ≤ length d = omega (arith, ap length (written h)) in
       e ∙ (rw (le-leb (k + length (tree_bytes id_size depth_limit ns nm)) (length d) l)) ∙ ap (λ (t : List ℕ). put d k t) (sym (written h))
 
-  pub put_unwritten : writes ≡ false → (d : List ℕ) (k : ℕ) → d ≡ put d k (tree_of id_size depth_limit ns nm writes)
+  put_unwritten : writes ≡ false → (d : List ℕ) (k : ℕ) → d ≡ put d k (tree_of id_size depth_limit ns nm writes)
   put_unwritten h d k = sym (ap (λ (t : List ℕ). put d k t) (unwritten h) ∙ put_none d k)
 
-pub tree_end : (t : List ℕ) (n k : ℕ) → n ≡ length t → k + n ≡ k + length t
-tree_end t n k e = omega arith
+module _ (ns nm : List ℕ) (tree : Option ℕ) where
+  pub tree_end : (size k : ℕ) → tree ≡ Some size → unwrap_or tree 0 ≡ length (tree_of id_size depth_limit ns nm (is_some tree)) → k + size ≡ k + length (tree_of id_size depth_limit ns nm (is_some tree))
+  tree_end size k e l = ap (λ (n : ℕ). k + n) (ap (λ (t : Option ℕ). unwrap_or t 0) (sym e) ∙ l)
+
+  pub tree_written : (size : ℕ) → tree ≡ Some size → (d d₁ : List ℕ) (k : ℕ) → k + length (tree_of id_size depth_limit ns nm (is_some tree)) ≤ length d → d₁ ≡ put_fit d k (tree_bytes id_size depth_limit ns nm)
+      → d₁ ≡ put d k (tree_of id_size depth_limit ns nm (is_some tree))
+  tree_written size e = put_written ns nm (is_some tree) (ap (λ (t : Option ℕ). is_some t) e)
+
+  module _ (e : tree ≡ None) where
+    unasked : is_some tree ≡ false
+    unasked = ap (λ (t : Option ℕ). is_some t) e
+
+    pub tree_stays : (k : ℕ) → k ≡ k + length (tree_of id_size depth_limit ns nm (is_some tree))
+    tree_stays k = omega (arith, ap length (unwritten ns nm (is_some tree) unasked))
+
+    pub tree_unwritten : (d : List ℕ) (k : ℕ) → d ≡ put d k (tree_of id_size depth_limit ns nm (is_some tree))
+    tree_unwritten = put_unwritten ns nm (is_some tree) unasked
 
 -- ---- bytes put side by side
 
@@ -233,9 +249,12 @@ module _ (there : Bool) where
   unfolding end_size
   end_absent h = sym (rw h)
 
-pub sizes_sum : (front tree h l a b r : ℕ) (writes sparse : Bool) → h ≡ head_size writes → l ≡ head_size sparse → a ≡ cap (front + h) → b ≡ cap (a + tree) → r ≡ cap (b + l) → r ≡ cap (cap (cap (front + head_size writes) + tree) + head_size sparse)
+pub sizes_sum : (front tree h l a b r : ℕ) (writes sparse : Bool) → h ≡ head_size writes → l ≡ head_size sparse → a ≡ min (front + h) largest → b ≡ min (a + tree) largest → r ≡ min (b + l) largest
+    → r ≡ cap (cap (cap (front + head_size writes) + tree) + head_size sparse)
 sizes_sum front tree h l a b r writes sparse eh el ea eb er =
-    er ∙ (λ j. cap (eb j + el j)) ∙ (λ j. cap (cap (ea j + tree) + head_size sparse)) ∙ ap (λ (x : ℕ). cap (cap (cap (front + x) + tree) + head_size sparse)) eh
+    let a₁ : a ≡ cap (front + h) = min_cap (front + h) a ea in
+    let b₁ : b ≡ cap (a + tree) = min_cap (a + tree) b eb in
+    min_cap (b + l) r er ∙ (λ j. cap (b₁ j + el j)) ∙ (λ j. cap (cap (a₁ j + tree) + head_size sparse)) ∙ ap (λ (x : ℕ). cap (cap (cap (front + x) + tree) + head_size sparse)) eh
 
 pub length_eoie_part : (has : Bool) (offset : ℕ) (toc : List ℕ) → length (eoie_part sha1_kind has offset toc) + id_size ≡ end_size id_size has
 unfolding end_size
@@ -311,6 +330,6 @@ module _ (rs : List ℕ) (ps : Paths) (ns nm : List ℕ) (version count : ℕ) (
             ∙ ap (λ (x : List ℕ). put d 0 x) (sym (append_assoc body e (trailer_of sha1_kind skips (body ++ e))))
             ∙ ap (λ (x : List ℕ). put d 0 ((body ++ x) ++ trailer_of sha1_kind skips (body ++ x))) same
 
-pub ruleset whole = (tree_given, tree_missing, eoie_unasked, eoie_empty, eoie_tree, eoie_sparse, fits_written, fits_unwritten, length-written, length_unwritten, put_written, put_unwritten, header_put, tree_end, front_header, front_next, front_put, extensions_head, extensions_tree, extensions_sparse, extensions_next, extensions_put, end_eoie, end_trailer, end_put, head_there, head_absent, end_there, end_absent, sizes_sum)
+pub ruleset whole = (tree_given, tree_missing, eoie_unasked, eoie_empty, eoie_tree, eoie_sparse, fits_written, fits_unwritten, length-written, length_unwritten, header_put, tree_end, tree_written, tree_stays, tree_unwritten, front_header, front_next, front_put, extensions_head, extensions_tree, extensions_sparse, extensions_next, extensions_put, end_eoie, end_trailer, end_put, head_there, head_absent, end_there, end_absent, sizes_sum)
 
 pub ruleset fills = (fill_front, fill_extensions, fill_end_room, fill_put)

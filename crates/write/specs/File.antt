@@ -1,7 +1,7 @@
 -- The whole file as it is written (01, Writing, and write.rs, tree/write.rs, end_of_index_entry/write.rs), over the kind: header, entries, the
 -- extensions, EOIE and the trailer, one after the other; and what the writer answers. The extensions are one list, and their bytes, their length and what EOIE says of
 -- them follow from it. Assumes nothing.
-use Rattle.std.specs.Prelude.{ℕ, ◌+◌, Bool, true, false, ◌≡◌, List, [], ◌∷◌, ◌++◌, ltb, length, drop, replicate}
+use Rattle.std.specs.Prelude.{ℕ, ◌+◌, Bool, true, false, ◌≡◌, List, [], ◌∷◌, ◌++◌, ltb, length, drop, replicate, Option, is_some, unwrap_or, Err, Ok, Result}
 use Rattle.laws.specs.Pick.{pick}
 use Rattle.laws.specs.Put.{put}
 use Rattle.wire.specs.BigEndian.{bytes_of}
@@ -16,9 +16,12 @@ use Rattle.proper.specs.Proper.{is_proper}
 use Rattle.write.specs.declared.Options.{Options}
 use Rattle.write.specs.declared.Plan.{Plan}
 use Rattle.write.specs.declared.extension.Heads.{Heads}
-use Rattle.write.specs.declared.Answer.{Answer}
-use Rattle.write.specs.declared.Answer.TheVariants.{Done, PathOutside, NotProper, TooLarge, ShortOutput}
 use Rattle.write_entries.specs.Entries.{first_fault, on_first, count_of, any_extended, table_bytes}
+use Rattle.write_entries.specs.declared.Outside.{Outside}
+use Rattle.write.specs.Made.{written_with}
+use Rattle.write.specs.declared.Error.{Error as WriteError}
+use Rattle.write.specs.declared.Error.TheVariants.{NotProper, PathOutside, ShortOutput, TooLarge}
+use Rattle.write.specs.declared.Written.{Written}
 
 -- ---- the parts
 
@@ -152,6 +155,10 @@ Puts end after before at bytes = (end ≡ at + length bytes) × (after ≡ put b
 unfoldable pub tree_head : Bool → ℕ → List ℕ
 tree_head writes size = pick writes (extension_head tree_signature size) []
 
+-- that of a tree of so many bytes, or none
+abbrev pub tree_head_with : Option ℕ → List ℕ
+tree_head_with tree = tree_head (is_some tree) (unwrap_or tree 0)
+
 unfoldable pub sparse_part : Bool → List ℕ
 sparse_part sparse = pick sparse (extension_head sparse_signature 0) []
 
@@ -160,11 +167,11 @@ unfoldable pub heads_of : Bool → ℕ → Bool → List ℕ
 heads_of writes size sparse = tree_head writes size ++ sparse_part sparse
 
 abbrev pub heads_in : Heads → List ℕ
-heads_in h = heads_of h.tree h.size h.sparse
+heads_in h = heads_of (is_some h.tree) (unwrap_or h.tree 0) h.sparse
 
 -- what is planned: the extensions, their bytes, all before EOIE's place, EOIE, and the whole file
 abbrev pub extensions_planned : ℕ → ℕ → List ℕ → List ℕ → Heads → List Extension
-extensions_planned id limit ns nm h = extensions_for h.tree (tree_bytes id limit ns nm) h.sparse
+extensions_planned id limit ns nm h = extensions_for (is_some h.tree) (tree_bytes id limit ns nm) h.sparse
 
 abbrev pub extensions_in : ℕ → ℕ → List ℕ → List ℕ → Heads → List ℕ
 extensions_in id limit ns nm h = extensions_of (extensions_planned id limit ns nm h)
@@ -188,26 +195,30 @@ pub record Counted (id : ℕ) (rs : List ℕ) (ps : Paths) (version count size :
 -- ---- the answer
 
 -- 01's number of an answer, 0 where the file is written, and what goes with it: version and size, or what a refusal carries
-abbrev pub number_of : Answer → ℕ
-number_of (Done version size) = 0
-number_of (PathOutside index) = path_outside
-number_of NotProper = not_proper
-number_of TooLarge = too_large
-number_of (ShortOutput size) = short_output
+abbrev pub number_of : Result Written WriteError → ℕ
+number_of (Ok w) = 0
+number_of (Err (PathOutside index)) = path_outside
+number_of (Err NotProper) = not_proper
+number_of (Err TooLarge) = too_large
+number_of (Err (ShortOutput size)) = short_output
 
-abbrev pub carried_of : Answer → List ℕ
-carried_of (Done version size) = version ∷ size ∷ []
-carried_of (PathOutside index) = index ∷ []
-carried_of NotProper = []
-carried_of TooLarge = []
-carried_of (ShortOutput size) = size ∷ []
+-- the refusal of sizing
+abbrev pub of_outside : Outside → WriteError
+of_outside o = PathOutside o.index
+
+abbrev pub carried_of : Result Written WriteError → List ℕ
+carried_of (Ok w) = w.version ∷ w.size ∷ []
+carried_of (Err (PathOutside index)) = index ∷ []
+carried_of (Err NotProper) = []
+carried_of (Err TooLarge) = []
+carried_of (Err (ShortOutput size)) = size ∷ []
 
 -- what writing comes to: the answer, and what the output holds
 pub record Outcome : Type 0 where
-  pub answer : Answer
+  pub answer : Result Written WriteError
   pub out : List ℕ
 
-abbrev pub outcome : Answer → List ℕ → Outcome
+abbrev pub outcome : Result Written WriteError → List ℕ → Outcome
 outcome a o = record { answer = a; out = o }
 
 -- the most records, and the most bytes before EOIE's place
@@ -217,10 +228,10 @@ most = 4294967295
 -- a file that may be written: 15, 14, or the file and behind it what stood there
 unfoldable pub write_file : ℕ → ℕ → List ℕ → List ℕ → List ℕ → Outcome
 write_file records version body file out =
-    pick (ltb most records) (outcome TooLarge out)
-    (pick (ltb most (length body)) (outcome TooLarge out)
-    (pick (ltb (length out) (length file)) (outcome (ShortOutput (length file)) out)
-    (outcome (Done version (length file)) (file ++ drop (length file) out))))
+    pick (ltb most records) (outcome (Err TooLarge) out)
+    (pick (ltb most (length body)) (outcome (Err TooLarge) out)
+    (pick (ltb (length out) (length file)) (outcome (Err (ShortOutput (length file))) out)
+    (outcome (Ok (written_with version (length file))) (file ++ drop (length file) out))))
 
 abbrev pub write_table : Kind → ℕ → List ℕ → Paths → List ℕ → List ℕ → Options → List ℕ → Outcome
 write_table kind limit rs ps ns nm o out = write_file (records_in rs) (version_of rs) (body_bytes kind.id limit rs ps ns nm o) (file_bytes kind limit rs ps ns nm o) out
@@ -228,5 +239,5 @@ write_table kind limit rs ps ns nm o out = write_file (records_in rs) (version_o
 -- the first record with a fault, a table that is not proper, and then the file
 unfoldable pub write_all : Kind → ℕ → List ℕ → Paths → List ℕ → List ℕ → Options → List ℕ → Outcome
 write_all kind limit rs ps ns nm o out =
-    on_first (first_fault rs ps (records_in rs) 0) (λ i. outcome (PathOutside i) out)
-    (pick (tree_fits limit ns nm (writes_tree o)) (write_table kind limit rs ps ns nm o out) (outcome NotProper out))
+    on_first (first_fault rs ps (records_in rs) 0) (λ i. outcome (Err (PathOutside i)) out)
+    (pick (tree_fits limit ns nm (writes_tree o)) (write_table kind limit rs ps ns nm o out) (outcome (Err NotProper) out))

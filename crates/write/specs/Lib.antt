@@ -2,3 +2,4 @@
 pub mod File
 pub mod Parts
 pub mod Extensions
+pub mod Made

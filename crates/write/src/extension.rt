@@ -1,16 +1,16 @@
-// What follows the entries: the extensions and the trailer.
+// What follows the entries: the extensions and the trailer. Each part is written at a place of the output, and its writer answers where it ends.
+// Contracts speak of these two numbers (`Puts`), and a struct around output and place would hold no less.
 ghost use Rattle.std.specs.Prelude.{◌≡◌, ◌+◌, ◌≤◌, length, take};
 ghost use Rattle.laws.specs.Put.{put};
 ghost use Rattle.format.specs.Format.{id_size, extension_header_size};
 ghost use Rattle.sha1_hash.specs.Sha1.{sha1};
 ghost use Rattle.kind.specs.Sha1.{sha1_kind};
-ghost use Rattle.write.specs.File.{extension_head, tree_head, sparse_part, heads_in, eoie_part, trailer_of, Puts};
+ghost use Rattle.write.specs.File.{extension_head, tree_head_with, sparse_part, heads_in, eoie_part, trailer_of, Puts};
 
-// What the heads of the extensions before EOIE say: whether TREE is written, how many bytes its body has, and whether `sdir` is written.
+// What the heads of the extensions before EOIE say: how many bytes TREE's body has, if TREE is written, and whether `sdir` is written.
 #[derive(Clone, Copy)]
 pub struct Heads {
-    pub tree: bool,
-    pub size: u32,
+    pub tree: Option<u32>,
     pub sparse: bool,
 }
 
@@ -34,20 +34,21 @@ pub fn put_sparse(sparse: bool, out: &mut [u8], at: usize) -> usize
     ensures { Puts result out.new out.old at (sparse_part sparse) }
 {
     if sparse {
-        return put_head(*b"sdir", 0, out, at);
+        put_head(*b"sdir", 0, out, at)
+    } else {
+        at
     }
-    at
 }
 
 // Writes TREE's signature and size, if TREE is written.
-pub fn put_tree_head(writes: bool, size: u32, out: &mut [u8], at: usize) -> usize
-    requires { at + length (tree_head writes size) ≤ length out.old }
-    ensures { Puts result out.new out.old at (tree_head writes size) }
+pub fn put_tree_head(tree: Option<u32>, out: &mut [u8], at: usize) -> usize
+    requires { at + length (tree_head_with tree) ≤ length out.old }
+    ensures { Puts result out.new out.old at (tree_head_with tree) }
 {
-    if writes {
-        return put_head(*b"TREE", size, out, at);
+    match tree {
+        Some(size) => put_head(*b"TREE", size, out, at),
+        None => at,
     }
-    at
 }
 
 // The hash of the signatures and sizes of the extensions before EOIE.
@@ -55,12 +56,12 @@ fn contents_hash(h: Heads) -> [u8; format::ID_SIZE]
     ensures { result ≡ sha1 (heads_in h) }
 {
     let mut toc = [0u8; 2 * format::EXTENSION_HEADER_SIZE];
-    let middle = put_tree_head(h.tree, h.size, &mut toc, 0);
+    let middle = put_tree_head(h.tree, &mut toc, 0);
     let end = put_sparse(h.sparse, &mut toc, middle);
     sha1_hash::sha1_of(&toc[..end])
 }
 
-// Writes EOIE, if it is written: where the extensions start, and the hash of their signatures and sizes.
+// Writes EOIE, if it is written: where the extensions start, which is known in either case, and the hash of their signatures and sizes.
 pub fn put_eoie(has: bool, offset: u32, h: Heads, out: &mut [u8], at: usize) -> usize
     requires { at + length (eoie_part sha1_kind has offset (heads_in h)) ≤ length out.old }
     ensures { Puts result out.new out.old at (eoie_part sha1_kind has offset (heads_in h)) }
@@ -71,9 +72,10 @@ pub fn put_eoie(has: bool, offset: u32, h: Heads, out: &mut [u8], at: usize) -> 
         let last = body + format::OFFSET_SIZE;
         wire::put32(out, body, offset);
         slices::copy_bytes(&hash, 0, format::ID_SIZE, out, last);
-        return last + format::ID_SIZE;
+        last + format::ID_SIZE
+    } else {
+        at
     }
-    at
 }
 
 // Writes the trailer behind the bytes before `at`: their hash, or zeros.
@@ -83,8 +85,8 @@ pub fn put_trailer(skips: bool, out: &mut [u8], at: usize)
 {
     if skips {
         slices::clear(out, at, format::ID_SIZE);
-        return;
+    } else {
+        let hash = sha1_hash::sha1_of(&out[..at]);
+        slices::copy_bytes(&hash, 0, format::ID_SIZE, out, at);
     }
-    let hash = sha1_hash::sha1_of(&out[..at]);
-    slices::copy_bytes(&hash, 0, format::ID_SIZE, out, at);
 }

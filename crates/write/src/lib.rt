@@ -2,23 +2,23 @@
 
 #![tactic(auto)]
 
-ghost use Rattle.std.specs.Prelude.{◌≡◌, ◌+◌, ◌≤◌, length, take};
+ghost use Rattle.std.specs.Prelude.{◌≡◌, ◌+◌, ◌≤◌, length, take, is_some, unwrap_or};
 ghost use Rattle.laws.specs.Put.{put};
 ghost use Rattle.sums.specs.Cap.{cap};
 ghost use Rattle.format.specs.Format.{depth_limit, id_size, header_size};
 ghost use Rattle.kind.specs.Sha1.{sha1_kind};
 ghost use Rattle.entry.specs.Paths.{lying_in};
-ghost use Rattle.write.specs.File.{header_of, front_of, extensions_in, plan_body, plan_file, eoie_for, offset_of, end_of, head_size, end_size, most, tree_of, tree_fits, writes_tree, has_eoie, Puts, Counted, outcome, write_table, write_all};
+ghost use Rattle.write.specs.File.{header_of, front_of, extensions_in, plan_body, plan_file, eoie_for, offset_of, end_of, head_size, end_size, most, tree_of, tree_fits, writes_tree, has_eoie, of_outside, Puts, Counted, outcome, write_table, write_all};
 
 use extension::Heads;
-use write_entries::Sized;
+use write_entries::{Outside, Sized};
 
 mod extension;
 
 // The most records, and the most bytes before EOIE's place.
-const MOST: usize = 4294967295;
+const MOST: usize = u32::MAX as usize;
 
-// What is to be written.
+// What is to be written: five things, each asked for by itself.
 #[derive(Clone, Copy)]
 pub struct Options {
     // there is a tree
@@ -33,14 +33,6 @@ pub struct Options {
     pub unhashed: bool,
 }
 
-// What sizing the entries came to: the version, how many are written, and how many bytes they have with the header.
-#[derive(Drop)]
-pub struct Totals {
-    pub version: u32,
-    pub count: usize,
-    pub size: usize,
-}
-
 // What is known of a file when it is filled: its version, how many entries it has, the extensions before EOIE, whether EOIE is written, and whether zeros stand in
 // the place of the hash.
 #[derive(Drop)]
@@ -52,10 +44,16 @@ pub struct Plan {
     pub unhashed: bool,
 }
 
-#[derive(Drop)]
-pub enum Answer {
-    // the version and the size
-    Done { version: u32, size: usize },
+// The version, a number as C is told it, and the size of what was written.
+#[derive(Clone, Copy)]
+pub struct Written {
+    pub version: u32,
+    pub size: usize,
+}
+
+// Why nothing is written.
+#[derive(Clone, Copy)]
+pub enum Error {
     PathOutside { index: usize },
     NotProper,
     TooLarge,
@@ -63,94 +61,109 @@ pub enum Answer {
     ShortOutput { size: usize },
 }
 
-// TREE is written if it is given and asked for.
-fn writes_tree(o: Options) -> bool
-    ensures { result ≡ writes_tree o }
-{
-    if o.tree { o.cache } else { false }
+impl From<Outside> for Error {
+    ghost from_gives = { λ e x. x ≡ of_outside e };
+
+    fn from(e: Outside) -> Error {
+        Error::PathOutside { index: e.index }
+    }
 }
 
-// EOIE is written if it is asked for, the table holds a record and an extension was written.
-fn has_eoie(o: Options, records: usize, writes: bool) -> bool
-    requires { writes ≡ writes_tree o }
-    ensures { result ≡ has_eoie records o }
-{
-    if o.eoie {
-        if 0 < records {
-            if writes {
-                return true;
-            }
-            return o.sparse;
+impl Options {
+    // TREE is written if it is given and asked for.
+    fn writes_tree(self) -> bool
+        ensures { result ≡ writes_tree self }
+    {
+        self.tree && self.cache
+    }
+
+    // EOIE is written if it is asked for, the table holds a record and an extension was written.
+    fn has_eoie(self, records: usize) -> bool
+        ensures { result ≡ has_eoie records self }
+    {
+        self.eoie && 0 < records && (self.writes_tree() || self.sparse)
+    }
+}
+
+// The records of a table, and the store in which their paths lie.
+#[derive(Clone, Copy)]
+struct Table<'a> {
+    records: &'a [u8],
+    paths: &'a [u8],
+}
+
+// The nodes of a tree, and the store in which their names lie.
+#[derive(Clone, Copy)]
+struct Tree<'a> {
+    nodes: &'a [u8],
+    names: &'a [u8],
+}
+
+impl Tree<'_> {
+    // A tree that is written must be proper.
+    fn fits(self, writes: bool) -> bool
+        ensures { result ≡ tree_fits depth_limit self.entry.nodes.now self.entry.names.now writes }
+    {
+        !writes || proper::is_proper(self.nodes, self.names)
+    }
+
+    // How many bytes it has, none where TREE is not written.
+    fn size(self, writes: bool) -> usize
+        ensures { result ≡ cap (length (tree_of id_size depth_limit self.entry.nodes.now self.entry.names.now writes)) }
+    {
+        if writes {
+            tree_write::tree_size(self.nodes, self.names)
+        } else {
+            0
         }
-        return false;
     }
-    false
-}
 
-fn tree_fits(nodes: &[u8], names: &[u8], writes: bool) -> bool
-    ensures { result ≡ tree_fits depth_limit nodes.now names.now writes }
-{
-    if writes {
-        return proper::is_proper(nodes, names);
+    // Writes it, of so many bytes, if TREE is written, and answers where it ends.
+    fn put(self, tree: Option<u32>, out: &mut [u8], at: usize) -> usize
+        requires tree_value { unwrap_or tree 0 ≡ length (tree_of id_size depth_limit self.nodes.now self.names.now (is_some tree)) }
+        requires tree_in_bounds { at + length (tree_of id_size depth_limit self.nodes.now self.names.now (is_some tree)) ≤ length out.old }
+        ensures { Puts result out.new out.old at (tree_of id_size depth_limit self.entry.nodes.now self.entry.names.now (is_some tree)) }
+    {
+        match tree {
+            Some(size) => {
+                tree_write::put_tree(self.nodes, self.names, out, at);
+                at + size as usize
+            }
+            None => at,
+        }
     }
-    true
-}
 
-// How many bytes the tree has, none where TREE is not written.
-fn tree_length(nodes: &[u8], names: &[u8], writes: bool) -> usize
-    ensures { result ≡ cap (length (tree_of id_size depth_limit nodes.now names.now writes)) }
-{
-    if writes {
-        return tree_write::tree_size(nodes, names);
+    // Writes TREE and `sdir` at `at`, and answers where they end.
+    fn put_extensions(self, h: Heads, out: &mut [u8], at: usize) -> usize
+        requires tree_value { unwrap_or h.tree 0 ≡ length (tree_of id_size depth_limit self.nodes.now self.names.now (is_some h.tree)) }
+        requires h_in_bounds { at + length (extensions_in id_size depth_limit self.nodes.now self.names.now h) ≤ length out.old }
+        ensures { Puts result out.new out.old at (extensions_in id_size depth_limit self.entry.nodes.now self.entry.names.now h) }
+    {
+        let body = extension::put_tree_head(h.tree, out, at);
+        let end = self.put(h.tree, out, body);
+        extension::put_sparse(h.sparse, out, end)
     }
-    0
-}
-
-// Writes the tree, of so many bytes, and answers where it ends.
-fn put_tree(nodes: &[u8], names: &[u8], writes: bool, tree: u32, out: &mut [u8], at: usize) -> usize
-    requires tree_value { tree ≡ length (tree_of id_size depth_limit nodes.now names.now writes) }
-    requires writes_in_bounds { at + length (tree_of id_size depth_limit nodes.now names.now writes) ≤ length out.old }
-    ensures { Puts result out.new out.old at (tree_of id_size depth_limit nodes.now names.now writes) }
-{
-    let end = at + tree as usize;
-    if writes {
-        tree_write::put_tree(nodes, names, out, at);
-        return end;
-    }
-    end
 }
 
 fn put_header(version: u32, count: u32, out: &mut [u8])
     requires { header_size ≤ length out.old }
     ensures { out.new ≡ put out.old 0 (header_of version count) }
 {
-    let signature = *b"DIRC";
-    slices::copy_bytes(&signature, 0, 4, out, 0);
+    slices::copy_bytes(b"DIRC", 0, 4, out, 0);
     wire::put32(out, 4, version);
     wire::put32(out, 8, count);
 }
 
-// Writes header and entries, and answers where they end.
-fn fill_front(records: &[u8], paths: &[u8], version: u32, count: u32, out: &mut [u8]) -> usize
-    requires { length (front_of id_size records.now (lying_in paths.now) version count) ≤ length out.old }
-    ensures value { result ≡ offset_of id_size records.now (lying_in paths.now) }
-    ensures out_after { out.new ≡ put out.old 0 (front_of id_size records.now (lying_in paths.now) version count) }
-{
-    put_header(version, count, out);
-    write_entries::put_entries(records, paths, out, format::HEADER_SIZE)
-}
-
-// Writes TREE and `sdir` at `at`, and answers where they end.
-fn fill_extensions(nodes: &[u8], names: &[u8], h: Heads, out: &mut [u8], at: usize) -> usize
-    requires size_value { h.size ≡ length (tree_of id_size depth_limit nodes.now names.now h.tree) }
-    requires h_in_bounds { at + length (extensions_in id_size depth_limit nodes.now names.now h) ≤ length out.old }
-    ensures { Puts result out.new out.old at (extensions_in id_size depth_limit nodes.now names.now h) }
-{
-    let writes = h.tree;
-    let size = h.size;
-    let body = extension::put_tree_head(writes, size, out, at);
-    let end = put_tree(nodes, names, writes, size, out, body);
-    extension::put_sparse(h.sparse, out, end)
+impl Table<'_> {
+    // Writes header and entries, and answers where they end.
+    fn put_front(self, version: u32, count: u32, out: &mut [u8]) -> usize
+        requires { length (front_of id_size self.records.now (lying_in self.paths.now) version count) ≤ length out.old }
+        ensures value { result ≡ offset_of id_size self.entry.records.now (lying_in self.entry.paths.now) }
+        ensures out_after { out.new ≡ put out.old 0 (front_of id_size self.entry.records.now (lying_in self.entry.paths.now) version count) }
+    {
+        put_header(version, count, out);
+        write_entries::put_entries(self.records, self.paths, out, format::HEADER_SIZE)
+    }
 }
 
 // Writes EOIE and the trailer behind the bytes before `at`.
@@ -163,17 +176,17 @@ fn fill_end(p: Plan, offset: u32, out: &mut [u8], at: usize)
 }
 
 // Writes the whole file.
-fn fill(records: &[u8], paths: &[u8], nodes: &[u8], names: &[u8], p: Plan, out: &mut [u8])
-    requires size_value { p.heads.size ≡ length (tree_of id_size depth_limit nodes.now names.now p.heads.tree) }
-    requires paths_bound { offset_of id_size records.now (lying_in paths.now) ≤ most }
-    requires eoie_in_bounds { length (plan_body id_size depth_limit records.now (lying_in paths.now) nodes.now names.now p) + end_size id_size p.eoie
+fn fill(table: Table, tree: Tree, p: Plan, out: &mut [u8])
+    requires tree_value { unwrap_or p.heads.tree 0 ≡ length (tree_of id_size depth_limit tree.nodes.now tree.names.now (is_some p.heads.tree)) }
+    requires paths_bound { offset_of id_size table.records.now (lying_in table.paths.now) ≤ most }
+    requires eoie_in_bounds { length (plan_body id_size depth_limit table.records.now (lying_in table.paths.now) tree.nodes.now tree.names.now p) + end_size id_size p.eoie
         ≤ length out.old }
     ensures { out.new
         ≡ put out.old 0
-        (plan_file sha1_kind depth_limit records.now (lying_in paths.now) nodes.now names.now p) }
+        (plan_file sha1_kind depth_limit table.entry.records.now (lying_in table.entry.paths.now) tree.entry.nodes.now tree.entry.names.now p) }
 {
-    let offset = fill_front(records, paths, p.version, p.count, out);
-    let end = fill_extensions(nodes, names, p.heads, out, offset);
+    let offset = table.put_front(p.version, p.count, out);
+    let end = tree.put_extensions(p.heads, out, offset);
     fill_end(p, offset as u32, out, end);
 }
 
@@ -182,9 +195,10 @@ fn head_size(there: bool) -> usize
     ensures { result ≡ head_size there }
 {
     if there {
-        return format::EXTENSION_HEADER_SIZE;
+        format::EXTENSION_HEADER_SIZE
+    } else {
+        0
     }
-    0
 }
 
 // EOIE and the trailer.
@@ -194,71 +208,61 @@ const END_SIZE: usize = format::EOIE_WHOLE_SIZE + format::ID_SIZE;
 fn end_size(has: bool) -> usize
     ensures { result ≡ end_size id_size has }
 {
-    if has {
-        return END_SIZE;
-    }
-    format::ID_SIZE
+    if has { END_SIZE } else { format::ID_SIZE }
 }
 
 // How many bytes stand before EOIE's place, behind header and entries of so many bytes.
 fn body_size(front: usize, writes: bool, tree: usize, sparse: bool) -> usize
     ensures { result ≡ cap (cap (cap (front + head_size writes) + tree) + head_size sparse) }
 {
-    let head = head_size(writes);
-    let last = head_size(sparse);
-    let headed = sums::saturating_add(front, head);
-    let treed = sums::saturating_add(headed, tree);
-    sums::saturating_add(treed, last)
+    front
+        .saturating_add(head_size(writes))
+        .saturating_add(tree)
+        .saturating_add(head_size(sparse))
 }
 
 // Writes a table that was sized and whose tree may be written: refuses what is too large or does not fit, and fills the output.
 fn write_sized(
-    records: &[u8],
-    paths: &[u8],
-    nodes: &[u8],
-    names: &[u8],
+    table: Table,
+    tree: Tree,
     o: Options,
-    t: Totals,
+    t: Sized,
     out: &mut [u8],
-) -> Answer
-    requires { Counted id_size records.now (lying_in paths.now) t.version t.count t.size }
+) -> Result<Written, Error>
+    requires { Counted id_size table.records.now (lying_in table.paths.now) t.version t.count t.size }
     ensures { outcome result out.new
-        ≡ write_table sha1_kind depth_limit records.now (lying_in paths.now) nodes.now names.now o
+        ≡ write_table sha1_kind depth_limit table.entry.records.now (lying_in table.entry.paths.now) tree.entry.nodes.now tree.entry.names.now o
         out.old }
 {
-    let n = entry::records_in(records);
-    let writes = writes_tree(o);
-    let tree = tree_length(nodes, names, writes);
-    let body = body_size(t.size, writes, tree, o.sparse);
-    if MOST < n {
-        return Answer::TooLarge;
-    }
-    if MOST < body {
-        return Answer::TooLarge;
+    let n = entry::records_in(table.records);
+    let writes = o.writes_tree();
+    let tree_size = tree.size(writes);
+    let body = body_size(t.size, writes, tree_size, o.sparse);
+    if MOST < n || MOST < body {
+        return Err(Error::TooLarge);
     }
     let version = t.version;
-    let has = has_eoie(o, n, writes);
-    let whole = body + end_size(has);
+    let eoie = o.has_eoie(n);
+    let whole = body + end_size(eoie);
     if out.len() < whole {
-        return Answer::ShortOutput { size: whole };
+        return Err(Error::ShortOutput { size: whole });
     }
     let heads = Heads {
-        tree: writes,
-        size: tree as u32,
+        tree: writes.then_some(tree_size as u32),
         sparse: o.sparse,
     };
     let plan = Plan {
         version,
         count: t.count as u32,
         heads,
-        eoie: has,
+        eoie,
         unhashed: o.unhashed,
     };
-    fill(records, paths, nodes, names, plan, out);
-    Answer::Done {
+    fill(table, tree, plan, out);
+    Ok(Written {
         version,
         size: whole,
-    }
+    })
 }
 
 // Writes the index file of a table into out, or says why not, and then out stays as it was.
@@ -269,28 +273,15 @@ pub fn write_to(
     names: &[u8],
     o: Options,
     out: &mut [u8],
-) -> Answer
+) -> Result<Written, Error>
     ensures { outcome result out.new
         ≡ write_all sha1_kind depth_limit records.now (lying_in paths.now) nodes.now names.now o out.old }
 {
-    let s = write_entries::size_entries(records, paths);
-    match s {
-        Sized::Outside { index } => Answer::PathOutside { index },
-        Sized::Of {
-            version,
-            count,
-            size,
-        } => {
-            let writes = writes_tree(o);
-            if tree_fits(nodes, names, writes) {
-                let t = Totals {
-                    version,
-                    count,
-                    size,
-                };
-                return write_sized(records, paths, nodes, names, o, t, out);
-            }
-            Answer::NotProper
-        }
+    let sized = write_entries::size_entries(records, paths)?;
+    let table = Table { records, paths };
+    let tree = Tree { nodes, names };
+    if !tree.fits(o.writes_tree()) {
+        return Err(Error::NotProper);
     }
+    write_sized(table, tree, o, sized, out)
 }

@@ -1,6 +1,6 @@
 -- Laws of the entries' definitions, turned the way that the needs ask. Assumes nothing.
-use Prim.Native.Nat.{ℕ, suc, ◌+◌, ◌-◌, ◌*◌, ◌/◌, ◌%◌, ◌≤◌, ◌<◌}
-use mathlib.Core.Bool.{Bool, true, false}
+use Prim.Native.Nat.{ℕ, suc, ◌+◌, ◌-◌, ◌*◌, ◌%◌, ◌≤◌, ◌<◌, min}
+use mathlib.Core.Bool.{Bool, true, false, not}
 use mathlib.Core.Path.{◌≡◌, refl, sym, ap, ◌∙◌, subst}
 use mathlib.Core.List.{List, [], ◌++◌, append_assoc, append-nil}
 use native.Mathlib.Nat.{sub-zero}
@@ -8,31 +8,34 @@ use native.Mathlib.Omega.{arith}
 use lib.Dec.{ltb, leb}
 use lib.ListN.{length, take, drop, replicate, length-append, length-replicate, drop_of_length-le}
 use lib.Seq.{paste, take_at, take_all, length-take-le}
-use borrow.Author.Tests.{lt-ltb, le-ltb, lt-leb, leb-true, ltb-true}
+use borrow.Author.Tests.{lt-leb, leb-true, ltb-true, ltb-false}
+use Rattle.std.specs.Int.{next_multiple_of, from_bool}
 use Rattle.laws.specs.Pick.{pick}
 use Rattle.laws.specs.Paste.{paste_take, paste_then}
 use Rattle.laws.specs.Put.{put, put_none, put_put, length-put, paste_put}
 use Rattle.wire.specs.BigEndian.{bytes_of, length-bytes}
-use Rattle.sums.specs.Cap.{cap}
+use Rattle.sums.specs.Cap.{cap, min_cap}
 use Rattle.format.specs.Format.{fixed_extended_size, fixed_size, fields_size, id_size}
 use Rattle.entry.specs.Flags.{bit, extended, removed, to_storage, extended_to_storage}
 use Rattle.entry.specs.Paths.{Paths}
 use Rattle.entry.specs.Record.{records_in, flags_at, lies_inside, path_at}
-use Rattle.write_entries.specs.declared.Sized.{Sized}
-use Rattle.write_entries.specs.declared.Sized.TheVariants.{Of, Outside}
 use Rattle.write_entries.specs.Entries.{is_gone, fault_of, stated, fixed_of, front_at, flag_bytes, whole_of, entry_of, record_bytes, before_at, bytes_at, kept_of, version_with, size_run, size_table, put_one, put_entries, put_table}
 use Rattle.write_entries.specs.Size.{length_front, length_flags, length_entry}
 use Rattle.write_entries.specs.Fitting.{one_fits}
+use Rattle.std.specs.Prelude.{Err, Ok, Result}
+use Rattle.write_entries.specs.Made.{outside_at, sized_as}
+use Rattle.write_entries.specs.declared.Outside.{Outside}
+use Rattle.write_entries.specs.declared.Sized.{Sized}
 
 -- ---- one record
 
-pub stated_short : (n : ℕ) → n < 4095 → n ≡ stated n
+pub stated_min : (n k : ℕ) → k ≡ min n 4095 → k ≡ stated n
 unfolding stated
-stated_short n h = sym (rw (lt-ltb n 4095 h))
-
-pub stated_long : (n : ℕ) → 4095 ≤ n → 4095 ≡ stated n
-unfolding stated
-stated_long n h = sym (rw (le-ltb n 4095 h))
+stated_min n k e = by (ltb n 4095) refl
+  where
+    by : (t : Bool) → ltb n 4095 ≡ t → k ≡ pick t n 4095
+    by true q = omega (arith, ltb-true n 4095 q)
+    by false q = omega (arith, ltb-false n 4095 q)
 
 pub stated_small : (n k : ℕ) → k ≡ stated n → k ≤ 4095
 unfolding stated
@@ -67,8 +70,9 @@ fixed_small flags = by (bit extended flags)
     by true = omega arith
     by false = omega arith
 
-pub whole_size : (flags fixed n : ℕ) → fixed ≡ fixed_of id_size flags → (fixed + n + 8) / 8 * 8 ≡ whole_of (fixed_of id_size flags) n
-whole_size flags fixed n e = ap (λ (k : ℕ). (k + n + 8) / 8 * 8) e
+-- the code's next multiple of 8 behind the path and one NUL
+pub whole_size : (flags fixed n r : ℕ) → fixed ≡ fixed_of id_size flags → r ≡ next_multiple_of (fixed + n + 1) 8 → r ≡ whole_of (fixed_of id_size flags) n
+whole_size flags fixed n r e h = (let k : r ≡ whole_of fixed n = omega arith in k) ∙ ap (λ (k : ℕ). whole_of k n) e
 
 pub fixed_bound : (flags fixed : ℕ) → fixed ≡ fixed_of id_size flags → fixed ≤ fixed_extended_size
 fixed_bound flags fixed e = omega (arith, fixed_small flags)
@@ -103,13 +107,13 @@ module _ (rs : List ℕ) (ps : Paths) (i flags : ℕ) (f : flags ≡ flags_at rs
     unfolding fault_of
     fault_outside before k = sym (rw (gone h, sym q ∙ k))
 
-  pub kept_gone : t ≡ true → 0 ≡ kept_of rs i
+  pub kept_is : (k : ℕ) → k ≡ from_bool (not t) → k ≡ kept_of rs i
   unfolding kept_of
-  kept_gone h = sym (rw (gone h))
-
-  pub kept_one : t ≡ false → 1 ≡ kept_of rs i
-  unfolding kept_of
-  kept_one h = sym (rw (gone h))
+  kept_is k h = by t refl ∙ ap (λ (u : Bool). pick u 0 1) (sym (gone refl))
+    where
+      by : (u : Bool) → t ≡ u → k ≡ pick u 0 1
+      by true q = h ∙ ap (λ (v : Bool). from_bool (not v)) q
+      by false q = h ∙ ap (λ (v : Bool). from_bool (not v)) q
 
   -- a record that is skipped
   module _ (before : List ℕ) (h : t ≡ true) where
@@ -156,13 +160,13 @@ module _ (rs : List ℕ) (ps : Paths) (i flags : ℕ) (f : flags ≡ flags_at rs
 
 -- ---- the sizing pass
 
-module _ (rs : List ℕ) (ps : Paths) (n i version count size : ℕ) (r : Sized) (inv : size_run id_size rs ps (n - i) i version count size ≡ r) where
-  size_end : n ≤ i → Of version count size ≡ r
+module _ (rs : List ℕ) (ps : Paths) (n i version count size : ℕ) (r : Result Sized Outside) (inv : size_run id_size rs ps (n - i) i version count size ≡ r) where
+  size_end : n ≤ i → Ok (sized_as version count size) ≡ r
   unfolding size_run
   size_end h = let z : n - i ≡ 0 = omega arith in rw z at inv
 
   module _ (more : i < n) (t : Bool) (e : t ≡ fault_of rs ps (before_at rs ps i) i) where
-    size_fault : t ≡ true → Outside i ≡ r
+    size_fault : t ≡ true → Err (outside_at i) ≡ r
     unfolding size_run
     size_fault h = let z : n - i ≡ suc (n - (i + 1)) = omega arith in sym (rw (z, sym e ∙ h)) ∙ inv
 
@@ -305,11 +309,11 @@ module _ (rs : List ℕ) (ps : Paths) (n version count size i : ℕ) (inv : Sizi
   whole_run : n ≡ records_in rs → size_run id_size rs ps n 0 2 0 12 ≡ size_table id_size rs ps
   whole_run e = ap (λ (m : ℕ). size_run id_size rs ps m 0 2 0 12) e
 
-  pub sizing_end : n ≤ i → n ≡ records_in rs → Of version count size ≡ size_table id_size rs ps
+  pub sizing_end : n ≤ i → n ≡ records_in rs → Ok (sized_as version count size) ≡ size_table id_size rs ps
   sizing_end h e = size_end rs ps n i version count size (size_run id_size rs ps n 0 2 0 12) inv.run h ∙ whole_run e
 
   module _ (more : i < n) (t : Bool) (e : t ≡ fault_of rs ps (before_at rs ps i) i) where
-    pub sizing_fault : t ≡ true → n ≡ records_in rs → Outside i ≡ size_table id_size rs ps
+    pub sizing_fault : t ≡ true → n ≡ records_in rs → Err (outside_at i) ≡ size_table id_size rs ps
     sizing_fault h q = size_fault rs ps n i version count size (size_run id_size rs ps n 0 2 0 12) inv.run more t e h ∙ whole_run q
 
     pub sizing_more : t ≡ false → (flags version₁ kept one size₁ : ℕ) → flags ≡ flags_at rs i → version₁ ≡ version_with flags version → kept ≡ kept_of rs i → one ≡ length (record_bytes id_size rs ps (before_at rs ps i) i) → size₁ ≡ cap (size + one)
@@ -321,4 +325,4 @@ module _ (rs : List ℕ) (ps : Paths) (n version count size i : ℕ) (inv : Sizi
           run = size_more rs ps n i version count size (size_run id_size rs ps n 0 2 0 12) inv.run more t e h flags version₁ kept one size₁ ef ev ek eo es;
         }
 
-pub ruleset laws = (stated_short, stated_long, fixed_wide, fixed_plain, whole_size, version_three, version_same, fault_gone, fault_none, fault_outside, kept_gone, kept_one, size_gone, gone_put, past_put, size_kept, kept_short, kept_room, kept_put, head_is, head_fits, entry_put, fill_start, fill_more, fill_end, sizing_start, sizing_end, sizing_fault, sizing_more)
+pub ruleset laws = (stated_min, fixed_wide, fixed_plain, whole_size, version_three, version_same, fault_gone, fault_none, fault_outside, kept_is, size_gone, gone_put, past_put, size_kept, kept_short, kept_room, kept_put, head_is, head_fits, entry_put, fill_start, fill_more, fill_end, sizing_start, sizing_end, sizing_fault, sizing_more, min_cap)

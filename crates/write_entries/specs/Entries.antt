@@ -1,7 +1,7 @@
 -- The entries as they are written (01, Writing, and entry/write.rs), over the length of an id: what is wrong with a record, its bytes, and those of the whole table,
 -- one record after the other. The path written before a record is at hand in both; versions 2 and 3 do not look at it. Then the two passes over the table: how long
 -- the entries are, and how they are put into an output of any length. Assumes nothing.
-use Rattle.std.specs.Prelude.{ℕ, zero, suc, ◌+◌, ◌-◌, ◌*◌, ◌/◌, ◌%◌, Bool, true, false, List, [], ◌++◌, ltb, leb, length, take, drop, replicate}
+use Rattle.std.specs.Prelude.{ℕ, zero, suc, ◌+◌, ◌-◌, ◌*◌, ◌/◌, ◌%◌, Bool, true, false, List, [], ◌++◌, ltb, leb, length, take, drop, replicate, Err, Ok, Result}
 use Rattle.laws.specs.Pick.{pick}
 use Rattle.laws.specs.Put.{put}
 use Rattle.wire.specs.BigEndian.{bytes_of}
@@ -11,8 +11,9 @@ use Rattle.entry.specs.Flags.{bit, extended, removed, to_storage, extended_to_st
 use Rattle.entry.specs.Layout.{record_size}
 use Rattle.entry.specs.Paths.{Paths}
 use Rattle.entry.specs.Record.{records_in, flags_at, lies_inside, path_at}
+use Rattle.write_entries.specs.Made.{outside_at, sized_as}
+use Rattle.write_entries.specs.declared.Outside.{Outside}
 use Rattle.write_entries.specs.declared.Sized.{Sized}
-use Rattle.write_entries.specs.declared.Sized.TheVariants.{Of, Outside}
 
 -- ---- one record
 
@@ -105,13 +106,13 @@ on_first nowhere f x = x
 
 -- ---- the sizing pass, record by record
 
-unfoldable pub size_run : ℕ → List ℕ → Paths → ℕ → ℕ → ℕ → ℕ → ℕ → Sized
-size_run id rs ps zero i version count size = Of version count size
+unfoldable pub size_run : ℕ → List ℕ → Paths → ℕ → ℕ → ℕ → ℕ → ℕ → Result Sized Outside
+size_run id rs ps zero i version count size = Ok (sized_as version count size)
 size_run id rs ps (suc n) i version count size =
-    pick (fault_at rs ps i) (Outside i)
+    pick (fault_at rs ps i) (Err (outside_at i))
     (size_run id rs ps n (i + 1) (version_with (flags_at rs i) version) (count + kept_of rs i) (cap (size + length (bytes_at id rs ps i))))
 
-abbrev pub size_table : ℕ → List ℕ → Paths → Sized
+abbrev pub size_table : ℕ → List ℕ → Paths → Result Sized Outside
 size_table id rs ps = size_run id rs ps (records_in rs) 0 2 0 header_size
 
 abbrev pub table_bytes : ℕ → List ℕ → Paths → List ℕ

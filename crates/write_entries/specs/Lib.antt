@@ -2,3 +2,4 @@
 pub mod Entries
 pub mod Size
 pub mod Fitting
+pub mod Made

@@ -1,7 +1,7 @@
 -- How long what is written is, and what the sizing pass comes to: the first fault, or the version, the count and the length of header and entries. Over the id's
 -- length and over all tables. Assumes nothing.
 use Prim.Native.Nat.{ℕ, zero, suc, ◌+◌, ◌*◌, ◌≤◌, ◌<◌}
-use Rattle.std.specs.Prelude.{Bool, ◌≡◌, replicate}
+use Rattle.std.specs.Prelude.{Bool, ◌≡◌, replicate, Err, Ok, Result}
 use Rattle.std.proofs.Math.Bool.{true, false}
 use Rattle.std.proofs.Math.Path.{refl, sym, ap}
 use Rattle.std.proofs.Common.{◌∙◌}
@@ -16,9 +16,10 @@ use Rattle.sums.specs.Cap.{largest, cap, cap_fits, cap_small, cap_cap}
 use Rattle.entry.specs.Flags.{bit, extended, to_storage, extended_to_storage}
 use Rattle.entry.specs.Paths.{Paths}
 use Rattle.entry.specs.Record.{records_in, flags_at}
-use Rattle.write_entries.specs.declared.Sized.{Sized}
-use Rattle.write_entries.specs.declared.Sized.TheVariants.{Of, Outside}
 use Rattle.write_entries.specs.Entries.{fault_of, stated, fixed_of, front_at, flag_bytes, pad_of, whole_of, entry_of, record_bytes, before_at, entries_bytes, kept_of, count_of, any_extended, version_with, found, first_fault, on_first, size_run}
+use Rattle.write_entries.specs.Made.{outside_at, sized_as}
+use Rattle.write_entries.specs.declared.Outside.{Outside}
+use Rattle.write_entries.specs.declared.Sized.{Sized}
 
 -- ---- an entry's length
 
@@ -58,8 +59,8 @@ three true = refl
 three false = refl
 
 module _ (id : ℕ) (rs : List ℕ) (ps : Paths) where
-  abbrev plain : ℕ → ℕ → ℕ → ℕ → ℕ → Sized
-  plain n i version count size = on_first (first_fault rs ps n i) Outside (Of (pick (any_extended rs n i) 3 version) (count + count_of rs n i) (cap (size + length (entries_bytes id rs ps n i))))
+  abbrev plain : ℕ → ℕ → ℕ → ℕ → ℕ → Result Sized Outside
+  plain n i version count size = on_first (first_fault rs ps n i) (λ k. Err (outside_at k)) (Ok (sized_as (pick (any_extended rs n i) 3 version) (count + count_of rs n i) (cap (size + length (entries_bytes id rs ps n i)))))
 
   version_more : (n i version : ℕ) → pick (any_extended rs n (i + 1)) 3 (version_with (flags_at rs i) version) ≡ pick (any_extended rs (suc n) i) 3 version
   unfolding version_with any_extended
@@ -79,9 +80,8 @@ module _ (id : ℕ) (rs : List ℕ) (ps : Paths) where
   size_is (suc n) i version count size h = by (λ v c s q. size_is n (i + 1) v c s q) (fault_of rs ps (before_at rs ps i) i)
     where
       by : ((v c s : ℕ) → s ≤ largest → size_run id rs ps n (i + 1) v c s ≡ plain n (i + 1) v c s) → (t : Bool)
-          → pick t (Outside i) (size_run id rs ps n (i + 1) (version_with (flags_at rs i) version) (count + kept_of rs i) (cap (size + length (record_bytes id rs ps (before_at rs ps i) i))))
-          ≡ on_first (pick t (found i) (first_fault rs ps n (i + 1))) Outside
-          (Of (pick (any_extended rs (suc n) i) 3 version) (count + (kept_of rs i + count_of rs n (i + 1))) (cap (size + length (record_bytes id rs ps (before_at rs ps i) i ++ entries_bytes id rs ps n (i + 1)))))
+          → pick t (Err (outside_at i)) (size_run id rs ps n (i + 1) (version_with (flags_at rs i) version) (count + kept_of rs i) (cap (size + length (record_bytes id rs ps (before_at rs ps i) i))))
+          ≡ on_first (pick t (found i) (first_fault rs ps n (i + 1))) (λ k. Err (outside_at k)) (Ok (sized_as (pick (any_extended rs (suc n) i) 3 version) (count + (kept_of rs i + count_of rs n (i + 1))) (cap (size + length (record_bytes id rs ps (before_at rs ps i) i ++ entries_bytes id rs ps n (i + 1))))))
       by ih true = refl
       by ih false =
           let one : List ℕ = record_bytes id rs ps (before_at rs ps i) i in
@@ -90,4 +90,4 @@ module _ (id : ℕ) (rs : List ℕ) (ps : Paths) where
           let b : count + kept_of rs i + count_of rs n (i + 1) ≡ count + (kept_of rs i + count_of rs n (i + 1)) = omega arith in
           let l : size + length one + length rest ≡ size + length (one ++ rest) = omega (arith, length-append one rest) in
           let k : cap (cap (size + length one) + length rest) ≡ cap (size + length (one ++ rest)) = cap_cap (size + length one) (length rest) ∙ ap cap l in
-          ih (version_with (flags_at rs i) version) (count + kept_of rs i) (cap (size + length one)) (cap_small (size + length one)) ∙ (λ j. on_first (first_fault rs ps n (i + 1)) Outside (Of (a j) (b j) (k j)))
+          ih (version_with (flags_at rs i) version) (count + kept_of rs i) (cap (size + length one)) (cap_small (size + length one)) ∙ (λ j. on_first (first_fault rs ps n (i + 1)) (λ k. Err (outside_at k)) (Ok (sized_as (a j) (b j) (k j))))

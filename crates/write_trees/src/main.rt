@@ -4,93 +4,63 @@
 
 #![tactic(auto)]
 
-use file::Answer as Got;
-use node::Node;
-use write::{Answer, Options};
+use file::Reading;
+use node::MINUS_ONE;
+use replay::Row;
+use std::alloc::{AllocError, Global};
+use std::io::Result;
+use write::{Error, Options, Written};
 
-// The descriptor of standard output.
-const STDOUT_FILENO: i32 = 1;
+// The nodes' names are parts of this.
+const NAMES: &str = "abcdefghijklmnopqrst";
 
-// The nodes' names are parts of this: "a" from 0 to 1, "ab" from 0 to 2.
-const NAMES: [u8; 20] = *b"abcdefghijklmnopqrst";
-
-// The bytes up to number `last`, in hexadecimal digits.
-fn show_hex(s: &[u8], last: usize) {
-    let mut i: usize = 0;
-    while i < s.len() {
-        if last < i {
-            return;
-        }
-        io::write_all(STDOUT_FILENO, &show::hex_byte(s[i]));
-        i += 1;
+// A node that is out of date, so that it has no id.
+fn stale(name: &'static str, subtrees: u64, parent: u64) -> Row {
+    Row {
+        name,
+        count: MINUS_ONE,
+        subtrees,
+        parent,
     }
 }
 
-// A node that is out of date, so that it has no id. Its name goes from start to stop.
-fn put(nodes: &mut [u8], i: usize, start: usize, stop: usize, subtrees: u64, parent: u64) {
-    let names = NAMES;
-    let n = Node {
-        start,
-        stop,
-        count: node::MINUS_ONE,
-        subtrees,
-        id: 0,
-        next: 0,
-    };
-    node::put_node(&names, n, parent, nodes, i);
+fn node_table(alloc: Global, rows: &[Row]) -> std::result::Result<Vec<u8>, AllocError> {
+    replay::node_table(alloc, NAMES, rows)
 }
 
 // What the table is, whether it is proper, how many bytes its tree has, and the tree with a byte behind it, which stays as it was.
-fn show_tree(kind: &[u8], nodes: &[u8]) {
-    let names = NAMES;
+fn show_tree(rt: &impl Print, kind: &str, nodes: &[u8]) -> Result<()> {
+    let names = NAMES.as_bytes();
+    // what is lent is a store of a fixed size, here and below
     let mut out = [255u8; 3584];
-    io::write_all(STDOUT_FILENO, kind);
-    if proper::is_proper(nodes, &names) {
-        io::write_all(STDOUT_FILENO, b" proper ");
+    let not = if proper::is_proper(nodes, names) {
+        ""
     } else {
-        io::write_all(STDOUT_FILENO, b" not proper ");
-    }
-    let size = tree_write::tree_size(nodes, &names);
-    io::print_decimal(STDOUT_FILENO, size as u64);
-    io::write_all(STDOUT_FILENO, b"\n");
-    tree_write::put_tree(nodes, &names, &mut out, 0);
-    show_hex(&out, size);
-    io::write_all(STDOUT_FILENO, b"\n");
+        "not "
+    };
+    let size = tree_write::tree_size(nodes, names);
+    println!(rt; "{kind}: {not}proper {size}")?;
+    tree_write::put_tree(nodes, names, &mut out, 0);
+    replay::print_hex(rt, out.get(..=size).unwrap_or(&out))?;
+    println!(rt)
 }
 
-// How many nodes are read back.
-fn read_back(file: &[u8]) {
+// How many nodes of a file are read back.
+fn show_read_back(rt: &impl Print, file: &[u8]) -> Result<()> {
     let mut nodes = [0u8; 36936];
-    let mut records = [0u8; 0];
-    let mut paths = [0u8; 0];
-    let a = file::read(file, &mut records, &mut paths, &mut nodes);
-    if let Got::Read {
-        version: _,
-        sparse: _,
-        tree: _,
-        records: _,
-        path_bytes: _,
-        nodes: used,
-    } = a
-    {
-        io::write_all(STDOUT_FILENO, b"nodes read back: ");
-        io::print_decimal(STDOUT_FILENO, used as u64);
-        io::write_all(STDOUT_FILENO, b"\n");
-    }
-}
-
-// The same of the first `size` bytes.
-fn read_back_start(out: &[u8], size: usize) {
-    if size <= out.len() {
-        read_back(&out[..size]);
+    match file::read(file, &mut [], &mut [], &mut nodes) {
+        Ok(Reading { tree, .. }) => {
+            let used = tree.unwrap_or(0);
+            println!(rt; "nodes read back: {used}")
+        }
+        Err(_) => Ok(()),
     }
 }
 
 // A file of no records with this tree: its size and how many nodes are read back, or that the table is not proper.
-fn show_file(nodes: &[u8]) {
-    let names = NAMES;
-    let none = [0u8; 0];
+fn show_file(rt: &impl Print, nodes: &[u8]) -> Result<()> {
     let mut out = [0u8; 4096];
+    // made here, as in each program that writes: what crate `replay` makes, the programs that only read have to wait for
     let only_tree = Options {
         tree: true,
         cache: true,
@@ -98,168 +68,152 @@ fn show_file(nodes: &[u8]) {
         sparse: false,
         unhashed: false,
     };
-    let a = write::write_to(&none, &none, nodes, &names, only_tree, &mut out);
-    match a {
-        Answer::Done { version: _, size } => {
-            io::write_all(STDOUT_FILENO, b"file ");
-            io::print_decimal(STDOUT_FILENO, size as u64);
-            io::write_all(STDOUT_FILENO, b"\n");
-            read_back_start(&out, size);
+    match write::write_to(&[], &[], nodes, NAMES.as_bytes(), only_tree, &mut out) {
+        Ok(Written { size, .. }) => {
+            println!(rt; "file {size}")?;
+            show_read_back(rt, out.get(..size).unwrap_or(&[]))
         }
-        Answer::NotProper => {
-            io::write_all(STDOUT_FILENO, b"refused 16\n");
-        }
-        Answer::PathOutside { index: _ } | Answer::TooLarge | Answer::ShortOutput { size: _ } => {
-            io::write_all(STDOUT_FILENO, b"another refusal\n");
-        }
+        Err(Error::NotProper) => println!(rt; "refused 16"),
+        Err(Error::PathOutside { .. } | Error::TooLarge | Error::ShortOutput { .. }) => println!(rt;
+            "another refusal"
+        ),
     }
 }
 
 // a with ab below it, b.
-fn byte_order() {
-    let mut nodes = [0u8; 288];
-    put(&mut nodes, 0, 0, 0, 2, node::MINUS_ONE);
-    put(&mut nodes, 1, 0, 1, 1, 0);
-    put(&mut nodes, 2, 0, 2, 0, 1);
-    put(&mut nodes, 3, 1, 2, 0, 0);
-    show_tree(b"byte order:", &nodes);
+fn byte_order(alloc: Global) -> std::result::Result<Vec<u8>, AllocError> {
+    let rows = [
+        stale("", 2, MINUS_ONE),
+        stale("a", 1, 0),
+        stale("ab", 0, 1),
+        stale("b", 0, 0),
+    ];
+    node_table(alloc, &rows)
 }
 
 // b, ab, bc: the shorter first.
-fn git_order() {
-    let mut nodes = [0u8; 288];
-    put(&mut nodes, 0, 0, 0, 3, node::MINUS_ONE);
-    put(&mut nodes, 1, 1, 2, 0, 0);
-    put(&mut nodes, 2, 0, 2, 0, 0);
-    put(&mut nodes, 3, 1, 3, 0, 0);
-    show_tree(b"git's order:", &nodes);
+fn git_order(alloc: Global) -> std::result::Result<Vec<u8>, AllocError> {
+    let rows = [
+        stale("", 3, MINUS_ONE),
+        stale("b", 0, 0),
+        stale("ab", 0, 0),
+        stale("bc", 0, 0),
+    ];
+    node_table(alloc, &rows)
 }
 
 // c with q, pq and p below it, and p in that; ab with b, ab, b in one another; bc with p, q, ab below it, in p again q, op, and in q a. Below c there is no
 // order, elsewhere the shorter stands first.
-fn git_order_below() {
-    let mut nodes = [0u8; 1224];
-    put(&mut nodes, 0, 0, 0, 3, node::MINUS_ONE);
-    put(&mut nodes, 1, 2, 3, 3, 0);
-    put(&mut nodes, 2, 16, 17, 0, 1);
-    put(&mut nodes, 3, 15, 17, 0, 1);
-    put(&mut nodes, 4, 15, 16, 1, 1);
-    put(&mut nodes, 5, 15, 16, 0, 4);
-    put(&mut nodes, 6, 0, 2, 1, 0);
-    put(&mut nodes, 7, 1, 2, 1, 6);
-    put(&mut nodes, 8, 0, 2, 1, 7);
-    put(&mut nodes, 9, 1, 2, 0, 8);
-    put(&mut nodes, 10, 1, 3, 3, 0);
-    put(&mut nodes, 11, 15, 16, 2, 10);
-    put(&mut nodes, 12, 16, 17, 0, 11);
-    put(&mut nodes, 13, 14, 16, 0, 11);
-    put(&mut nodes, 14, 16, 17, 1, 10);
-    put(&mut nodes, 15, 0, 1, 0, 14);
-    put(&mut nodes, 16, 0, 2, 0, 10);
-    show_tree(b"git's order on several levels:", &nodes);
+fn git_order_below(alloc: Global) -> std::result::Result<Vec<u8>, AllocError> {
+    let rows = [
+        stale("", 3, MINUS_ONE),
+        stale("c", 3, 0),
+        stale("q", 0, 1),
+        stale("pq", 0, 1),
+        stale("p", 1, 1),
+        stale("p", 0, 4),
+        stale("ab", 1, 0),
+        stale("b", 1, 6),
+        stale("ab", 1, 7),
+        stale("b", 0, 8),
+        stale("bc", 3, 0),
+        stale("p", 2, 10),
+        stale("q", 0, 11),
+        stale("op", 0, 11),
+        stale("q", 1, 10),
+        stale("a", 0, 14),
+        stale("ab", 0, 10),
+    ];
+    node_table(alloc, &rows)
 }
 
 // So many folders in the root, by turns b and a: each a but the last begins a run that ends with the b behind it, and together they take all the tails that
 // are kept.
-const BY_TURNS: usize = 4094;
+const BY_TURNS: u64 = 4094;
 
-fn put_by_turns(nodes: &mut [u8]) {
-    put(nodes, 0, 0, 0, BY_TURNS as u64, node::MINUS_ONE);
-    let mut i: usize = 1;
-    while i < BY_TURNS {
-        put(nodes, i, 1, 2, 0, 0);
-        put(nodes, i + 1, 0, 1, 0, 0);
-        i += 2;
+// By turns b and a in the root, and in the last of them c, b and a with d below it, for whose runs no tail is left.
+fn many_runs(alloc: Global) -> std::result::Result<Vec<u8>, AllocError> {
+    let mut rows = vec![in alloc; stale("", BY_TURNS, MINUS_ONE)]?;
+    for i in 1..BY_TURNS {
+        rows.push(stale(if i % 2 == 1 { "b" } else { "a" }, 0, 0))?;
     }
+    rows.extend_from_slice(&[
+        stale("a", 3, 0),
+        stale("c", 0, BY_TURNS),
+        stale("b", 0, BY_TURNS),
+        stale("a", 1, BY_TURNS),
+        stale("d", 0, BY_TURNS + 3),
+    ])?;
+    node_table(alloc, &rows)
 }
 
-// By turns b and a in the root, and in the last of them c, b and a with d below it, for whose runs no tail is left. Equal names go by their places, so this
-// is no proper table; it is written all the same. Shown are its size and the bytes where the last a ends and the first b begins.
-fn many_runs() {
-    let names = NAMES;
-    let mut nodes = [0u8; 295128];
+// Equal names go by their places, so this is no proper table; it is written all the same. Shown are its size and the bytes where the last a ends and
+// the first b begins.
+fn show_many_runs(rt: &impl Print, nodes: &[u8]) -> Result<()> {
+    let names = NAMES.as_bytes();
     let mut out = [255u8; 28800];
-    put_by_turns(&mut nodes);
-    put(&mut nodes, BY_TURNS, 0, 1, 3, 0);
-    put(&mut nodes, BY_TURNS + 1, 2, 3, 0, BY_TURNS as u64);
-    put(&mut nodes, BY_TURNS + 2, 1, 2, 0, BY_TURNS as u64);
-    put(&mut nodes, BY_TURNS + 3, 0, 1, 1, BY_TURNS as u64);
-    put(&mut nodes, BY_TURNS + 4, 3, 4, 0, BY_TURNS as u64 + 3);
-    let size = tree_write::tree_size(&nodes, &names);
-    tree_write::put_tree(&nodes, &names, &mut out, 0);
-    io::write_all(STDOUT_FILENO, b"more runs than tails: ");
-    io::print_decimal(STDOUT_FILENO, size as u64);
-    io::write_all(STDOUT_FILENO, b"\n");
-    show_hex(&out[14324..14387], 63);
-    io::write_all(STDOUT_FILENO, b"\n");
+    let size = tree_write::tree_size(nodes, names);
+    tree_write::put_tree(nodes, names, &mut out, 0);
+    println!(rt; "more runs than tails: {size}")?;
+    replay::print_hex(rt, &out[14324..14387])?;
+    println!(rt)
 }
 
-// bc, b with c below it, ab; and the same with bc once more for ab.
-fn no_order() {
-    let mut nodes = [0u8; 360];
-    put(&mut nodes, 0, 0, 0, 3, node::MINUS_ONE);
-    put(&mut nodes, 1, 1, 3, 0, 0);
-    put(&mut nodes, 2, 1, 2, 1, 0);
-    put(&mut nodes, 3, 2, 3, 0, 2);
-    put(&mut nodes, 4, 0, 2, 0, 0);
-    show_tree(b"no order:", &nodes);
-    put(&mut nodes, 4, 1, 3, 0, 0);
-    show_tree(b"no order, a name twice:", &nodes);
+// bc, b with c below it, and one more.
+fn no_order(alloc: Global, last: &'static str) -> std::result::Result<Vec<u8>, AllocError> {
+    let rows = [
+        stale("", 3, MINUS_ONE),
+        stale("bc", 0, 0),
+        stale("b", 1, 0),
+        stale("c", 0, 2),
+        stale(last, 0, 0),
+    ];
+    node_table(alloc, &rows)
 }
 
 // a, b, and then ab below a.
-fn no_walk_order() {
-    let mut nodes = [0u8; 288];
-    put(&mut nodes, 0, 0, 0, 2, node::MINUS_ONE);
-    put(&mut nodes, 1, 0, 1, 1, 0);
-    put(&mut nodes, 2, 1, 2, 0, 0);
-    put(&mut nodes, 3, 0, 2, 0, 1);
-    show_tree(b"not in walk order:", &nodes);
+fn no_walk_order(alloc: Global) -> std::result::Result<Vec<u8>, AllocError> {
+    let rows = [
+        stale("", 2, MINUS_ONE),
+        stale("a", 1, 0),
+        stale("b", 0, 0),
+        stale("ab", 0, 1),
+    ];
+    node_table(alloc, &rows)
 }
 
 // A folder in each folder, so many in all.
-fn chain(nodes: &mut [u8], levels: usize) {
-    put(nodes, 0, 0, 0, 1, node::MINUS_ONE);
-    let mut i: usize = 1;
-    while i < levels {
-        put(nodes, i, 0, 1, 1, i as u64 - 1);
-        i += 1;
+fn chain(alloc: Global, levels: u64) -> std::result::Result<Vec<u8>, AllocError> {
+    let mut rows = vec![in alloc; stale("", 1, MINUS_ONE)]?;
+    for i in 1..levels {
+        let below = u64::from(i + 1 < levels);
+        rows.push(stale("a", below, i - 1))?;
     }
-    if 0 < levels {
-        let last = levels - 1;
-        put(nodes, last, 0, 1, 0, node::parent(nodes, last));
-    }
+    node_table(alloc, &rows)
 }
 
-fn not_deepest() {
-    let mut nodes = [0u8; 36792];
-    chain(&mut nodes, 511);
-    show_tree(b"a folder less than allowed:", &nodes);
-    show_file(&nodes);
+// The chain of so many folders, and the file that has it for its tree.
+fn show_chain(rt: &impl Print, kind: &str, nodes: &[u8]) -> Result<()> {
+    show_tree(rt, kind, nodes)?;
+    show_file(rt, nodes)
 }
 
-fn deepest() {
-    let mut nodes = [0u8; 36864];
-    chain(&mut nodes, 512);
-    show_tree(b"as deep as allowed:", &nodes);
-    show_file(&nodes);
-}
-
-fn too_deep() {
-    let mut nodes = [0u8; 36936];
-    chain(&mut nodes, 513);
-    show_tree(b"a folder too deep:", &nodes);
-    show_file(&nodes);
-}
-
-fn main() {
-    byte_order();
-    git_order();
-    git_order_below();
-    many_runs();
-    no_order();
-    no_walk_order();
-    not_deepest();
-    deepest();
-    too_deep();
+fn main(rt: HostRuntime) -> Result<()> {
+    let alloc = rt.alloc();
+    // what cannot be printed is left out
+    let _ = show_tree(&rt, "byte order", &byte_order(alloc)?);
+    let _ = show_tree(&rt, "git's order", &git_order(alloc)?);
+    let _ = show_tree(
+        &rt,
+        "git's order on several levels",
+        &git_order_below(alloc)?,
+    );
+    let _ = show_many_runs(&rt, &many_runs(alloc)?);
+    let _ = show_tree(&rt, "no order", &no_order(alloc, "ab")?);
+    let _ = show_tree(&rt, "no order, a name twice", &no_order(alloc, "bc")?);
+    let _ = show_tree(&rt, "not in walk order", &no_walk_order(alloc)?);
+    let _ = show_chain(&rt, "a folder less than allowed", &chain(alloc, 511)?);
+    let _ = show_chain(&rt, "as deep as allowed", &chain(alloc, 512)?);
+    let _ = show_chain(&rt, "a folder too deep", &chain(alloc, 513)?);
+    Ok(())
 }

@@ -1,16 +1,11 @@
 -- `entry::put_record` meets its contract. Assumes nothing.
-use Rattle.entry.proofs.Laws.{laws}
-use borrow.Author.Rules.{rules}
+use native.Mathlib.Omega.{arith}
+use mathlib.Core.Path.{refl}
+use lib.ListN.{replicate}
+use Rattle.entry.proofs.Laws.{record_put}
 use Rattle.entry.proofs.put_record.Goals as goal
 
-pub returns-then-file-lt-ZEROS_AT : goal.returns-then-file-lt-ZEROS_AT
-returns-then-file-lt-ZEROS_AT c = search (laws, rules)
-
-pub returns-then-file-at : goal.returns-then-file-at
-returns-then-file-at c = search (laws, rules)
-
-pub returns-then-records-i : goal.returns-then-records-i
-returns-then-records-i c = search (laws, rules)
-
 pub returns : goal.returns
-returns c = search (laws, rules)
+returns c =
+    record_put _ _ (replicate 96 0) _ _ _ _ _ _ _ _ c.put_front.ensures c.put_rest.ensures c.copy_bytes.ensures refl (omega (arith, c.if-file-lt-ZEROS_AT.false)) (omega (arith, c.if-file-at.false))
+    (omega (arith, c.if-records_in-i.false, c.records_in.ensures))

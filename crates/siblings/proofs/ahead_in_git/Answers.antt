@@ -1,17 +1,17 @@
 -- `siblings::ahead_in_git` meets its contract. Assumes nothing.
-use borrow.Author.Rules.{rules}
-use Rattle.laws.specs.Tests.{tests}
+use Rattle.std.proofs.Common.{arith}
+use Rattle.std.proofs.lemmas.Bool.Decides.{nat_tests}
 use Rattle.siblings.specs.Rising.{git_before}
 use Rattle.siblings.proofs.ahead_in_git.Goals as goal
 
 pub returns-then-m-n : goal.returns-then-m-n
 unfolding git_before
-returns-then-m-n c = search (tests, rules)
+returns-then-m-n c = grind (arith, nat_tests)
 
-pub returns-then-n-m : goal.returns-then-n-m
+pub returns-then-m-n-2 : goal.returns-then-m-n-2
 unfolding git_before
-returns-then-n-m c = search (tests, rules)
+returns-then-m-n-2 c = grind (arith, nat_tests)
 
-pub returns : goal.returns
+pub returns-else-m-n-2 : goal.returns-else-m-n-2
 unfolding git_before
-returns c = search (tests, rules)
+returns-else-m-n-2 c = grind (arith, nat_tests)

@@ -1,30 +1,17 @@
-use borrow.Author.Rules.{rules}
-use Rattle.siblings.proofs.Laws.{searches}
+-- `siblings::is_repeated` meets its contract. Assumes nothing.
+use Rattle.std.specs.Prelude.{◌-◌, refl}
+use Rattle.std.proofs.Common.{rules, tests, ◌∙◌}
+use Rattle.std.proofs.lemmas.Iterator.{YieldsList-from_range}
+use Rattle.std.proofs.lemmas.Iterator.Search.{any_from_yields_List}
+use Rattle.siblings.specs.Siblings.{twin}
+use Rattle.siblings.proofs.Laws.{any_is, repeats_child, repeats_other}
 use Rattle.siblings.proofs.is_repeated.Goals as goal
 
-pub parent-p-requires : goal.parent-p-requires
-parent-p-requires c = search (searches, rules)
+pub returns-then-parent : goal.returns-then-parent
+returns-then-parent c =
+    let each = twin c.args.file.now c.args.nodes.now c.args.parent c.args.i in
+    let found = any_from_yields_List each _ _ _ c.any.ensures.ran (YieldsList-from_range c.args.first c.args.i (c.args.i - c.args.first) refl refl) (λ x b q k. search (rules, tests)) in
+    repeats_child _ _ _ _ _ _ c.parent.ensures c.if-parent.true _ (found ∙ any_is each (c.args.i - c.args.first) c.args.first)
 
-pub returns-then-p-parent : goal.returns-then-p-parent
-returns-then-p-parent c = search (searches, rules)
-
-pub loop-j-init : goal.loop-j-init
-loop-j-init c = search (searches, rules)
-
-pub is_twin-t-requires : goal.is_twin-t-requires
-is_twin-t-requires c = search (searches, rules)
-
-pub returns-then-t : goal.returns-then-t
-returns-then-t c = search (searches, rules)
-
-pub overflow_add-j : goal.overflow_add-j
-overflow_add-j c = search (searches, rules)
-
-pub loop-j-smaller : goal.loop-j-smaller
-loop-j-smaller c = search (searches, rules)
-
-pub loop-j-preserved : goal.loop-j-preserved
-loop-j-preserved c = search (searches, rules)
-
-pub returns : goal.returns
-returns c = search (searches, rules)
+pub returns-else-parent : goal.returns-else-parent
+returns-else-parent c = search (rules, repeats_other)

@@ -1,24 +1,14 @@
-use borrow.Author.Rules.{rules}
-use Rattle.siblings.proofs.Laws.{searches}
+-- `siblings::siblings_differ` meets its contract. Assumes nothing.
+use Rattle.std.specs.Prelude.{◌-◌, refl}
+use Rattle.std.proofs.Common.{rules, tests, ◌∙◌}
+use Rattle.std.proofs.lemmas.Iterator.{YieldsList-from_range}
+use Rattle.std.proofs.lemmas.Iterator.Search.{any_from_yields_List}
+use Rattle.siblings.specs.Siblings.{repeats}
+use Rattle.siblings.proofs.Laws.{any_is, differ_is}
 use Rattle.siblings.proofs.siblings_differ.Goals as goal
 
-pub loop-i-init : goal.loop-i-init
-loop-i-init c = search (searches, rules)
-
-pub is_repeated-t-requires : goal.is_repeated-t-requires
-is_repeated-t-requires c = search (searches, rules)
-
-pub returns-then-t : goal.returns-then-t
-returns-then-t c = search (searches, rules)
-
-pub overflow_add-i : goal.overflow_add-i
-overflow_add-i c = search (searches, rules)
-
-pub loop-i-smaller : goal.loop-i-smaller
-loop-i-smaller c = search (searches, rules)
-
-pub loop-i-preserved : goal.loop-i-preserved
-loop-i-preserved c = search (searches, rules)
-
 pub returns : goal.returns
-returns c = search (searches, rules)
+returns c =
+    let each = repeats c.args.file.now c.args.nodes.now c.args.parent c.args.first in
+    let found = any_from_yields_List each _ _ _ c.any.ensures.ran (YieldsList-from_range c.args.first c.args.used (c.args.used - c.args.first) refl refl) (λ x b q k. search (rules, tests)) in
+    differ_is _ _ _ _ _ _ (found ∙ any_is each (c.args.used - c.args.first) c.args.first)

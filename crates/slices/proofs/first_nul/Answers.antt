@@ -1,26 +1,16 @@
-use borrow.Author.Rules.{rules}
-use Rattle.slices.specs.Laws.{laws}
-use Rattle.slices.specs.Bytes.{nul_at}
+-- `slices::first_nul` meets its contract. Assumes nothing.
+use Rattle.std.proofs.Common.{rules, ◌≡◌, ◌∙◌, None}
+use native.Mathlib.Omega.{arith}
+use Rattle.slices.specs.Laws.{nul_past, nul_absent, nul_found}
 use Rattle.slices.proofs.first_nul.Goals as goal
 
-pub loop-i-init : goal.loop-i-init
-unfolding nul_at
-loop-i-init c = search rules
+pub returns-then-end-at : goal.returns-then-end-at
+returns-then-end-at c = nul_past c.args.s.now c.args.at c.args.end (omega arith)
 
-pub bounds-s-i : goal.bounds-s-i
-bounds-s-i c = search (laws, rules)
-
-pub returns-then-s-i-eq0 : goal.returns-then-s-i-eq0
-returns-then-s-i-eq0 c = search (laws, rules)
-
-pub overflow_add-i : goal.overflow_add-i
-overflow_add-i c = search (laws, rules)
-
-pub loop-i-smaller : goal.loop-i-smaller
-loop-i-smaller c = search (laws, rules)
-
-pub loop-i-preserved : goal.loop-i-preserved
-loop-i-preserved c = search (laws, rules)
+pub returns-in_err-n : goal.returns-in_err-n
+returns-in_err-n c =
+    let out : c.from_residual.result ≡ None = search rules in
+    out ∙ nul_absent c.args.s.now c.args.at c.args.end (search rules)
 
 pub returns : goal.returns
-returns c = search (laws, rules)
+returns c = nul_found c.args.s.now c.args.at c.args.end c.in_ok-n.n (search rules) (search rules) (search rules)

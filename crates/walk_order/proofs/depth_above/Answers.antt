@@ -1,12 +1,9 @@
-use borrow.Author.Rules.{rules}
+use Rattle.std.proofs.Common.{rules}
 use Rattle.walk_order.proofs.Depth.{depth-laws}
 use Rattle.walk_order.proofs.depth_above.Goals as goal
 
 pub loop-node-init : goal.loop-node-init
 loop-node-init c = search (depth-laws, rules)
-
-pub parent-up-requires : goal.parent-up-requires
-parent-up-requires c = search (depth-laws, rules)
 
 pub overflow_sub-left : goal.overflow_sub-left
 overflow_sub-left c = search (depth-laws, rules)
@@ -16,9 +13,6 @@ loop-node-smaller c = search (depth-laws, rules)
 
 pub loop-node-preserved : goal.loop-node-preserved
 loop-node-preserved c = search (depth-laws, rules)
-
-pub returns-then-node-to : goal.returns-then-node-to
-returns-then-node-to c = search (depth-laws, rules)
 
 pub returns : goal.returns
 returns c = search (depth-laws, rules)

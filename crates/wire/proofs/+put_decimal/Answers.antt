@@ -4,17 +4,8 @@ use Rattle.wire.specs.Written.{size_more}
 use Rattle.wire.proofs.Laws.{written}
 use Rattle.wire.proofs.+put_decimal.Goals as goal
 
-pub digit_of-requires : goal.digit_of-requires
-digit_of-requires t c = search (written, rules)
-
 pub bounds-d-at : goal.bounds-d-at
 bounds-d-at t c = search (written, rules)
-
-pub overflow_add-result : goal.overflow_add-result
-overflow_add-result t c = search (written, rules)
-
-pub shape_of-d-then-x-lt10 : goal.shape_of-d-then-x-lt10
-shape_of-d-then-x-lt10 t c = search (written, rules)
 
 pub returns-then-x-lt10 : goal.returns-then-x-lt10
 returns-then-x-lt10 t c = search (written, rules)
@@ -22,18 +13,12 @@ returns-then-x-lt10 t c = search (written, rules)
 pub put_decimal-next-requires : goal.put_decimal-next-requires
 put_decimal-next-requires t c = search (written, rules)
 
-pub digit_of-requires-2 : goal.digit_of-requires-2
-digit_of-requires-2 t c = search (written, rules)
-
 pub bounds-d-next : goal.bounds-d-next
 bounds-d-next t c = search (written, rules)
 
 pub overflow_add-result-2 : goal.overflow_add-result-2
 overflow_add-result-2 t c = let called = c.put_decimal-next in
     record { fits = omega (arith, size_more c.args.x (omega arith), called.ensures.0, c.requires) }
-
-pub shape_of-d : goal.shape_of-d
-shape_of-d t c = search (written, rules)
 
 pub returns : goal.returns
 returns t c = search (written, rules)

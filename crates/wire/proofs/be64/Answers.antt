@@ -1,7 +1,9 @@
 -- `wire::be64` meets its contract. Assumes nothing.
-use Rattle.wire.proofs.Laws.{be64_is}
-use borrow.Author.Rules.{rules}
+use native.Mathlib.Nat.{add-zero}
+use native.Mathlib.Omega.{arith}
+use Rattle.wire.specs.BigEndian.{be_at}
 use Rattle.wire.proofs.be64.Goals as goal
 
 pub returns : goal.returns
-returns c = search (be64_is, rules)
+unfolding be_at
+returns c = rw (add-zero c.args.at) (omega (arith, c.from_be_bytes.ensures))

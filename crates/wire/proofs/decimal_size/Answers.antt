@@ -1,9 +1,7 @@
+-- `wire::decimal_size` meets its contract. Assumes nothing.
 use native.Mathlib.Omega.{arith}
-use Rattle.wire.specs.Written.{size_one, size_more}
+use Rattle.wire.specs.Written.{size_between}
 use Rattle.wire.proofs.decimal_size.Goals as goal
 
-pub loop-left-preserved : goal.loop-left-preserved
-loop-left-preserved c = (omega arith, omega (arith, size_more c.loop-left.left (omega arith)))
-
 pub returns : goal.returns
-returns c = omega (arith, size_one c.loop-left.left (omega arith))
+returns c = size_between c.ilog10.result c.args.x (omega (arith, c.max.ensures, c.ilog10.ensures.power_le)) (omega (arith, c.max.ensures, c.ilog10.ensures.next_power_gt))

@@ -1,10 +1,6 @@
-use Prim.Native.Nat.{◌-◌}
 use Rattle.entry.specs.Paths.{lying_in}
 use Rattle.write_entries.proofs.Laws.{Filling}
 use Rattle.write_entries.proofs.put_entries.Given as goal
 
 abbrev pub invariant-loop-i : goal.invariant-loop-i
-invariant-loop-i l = Filling l.records (lying_in l.paths) l.initial.out l.from l.n l.out l.at l.i
-
-abbrev pub decreases-loop-i : goal.decreases-loop-i
-decreases-loop-i l = l.n - l.i
+invariant-loop-i l = Filling l.records (lying_in l.paths) l.initial.out l.from l.i-end l.out l.at l.i

@@ -1,19 +1,7 @@
--- `access::order::compare_from` meets its contract. Assumes nothing.
-use Rattle.access.proofs.Laws.{laws}
-use borrow.Author.Rules.{rules}
+-- `access::order::compare_from`: no byte ranks before any byte, as the end of a path does. Assumes nothing.
+use Rattle.access.proofs.Laws.{gets_ranked}
 use Rattle.access.proofs.order.compare_from.Goals as goal
-
-pub returns-then-k-b : goal.returns-then-k-b
-returns-then-k-b c = search (laws, rules)
-
-pub returns-then-a-k : goal.returns-then-a-k
-returns-then-a-k c = search (laws, rules)
-
-pub returns-then-b-k : goal.returns-then-b-k
-returns-then-b-k c = search (laws, rules)
-
-pub returns-then-x-y : goal.returns-then-x-y
-returns-then-x-y c = search (laws, rules)
+use Rattle.std.proofs.Common.{◌∙◌}
 
 pub returns : goal.returns
-returns c = search (laws, rules)
+returns c = c.cmp.ensures ∙ gets_ranked _ _ _ _ c.agree_from-k.ensures _ _ c.get.ensures.lookup.0 c.get-2.ensures.lookup.0 c.get.ensures.lookup.1 c.get-2.ensures.lookup.1

@@ -1,93 +1,72 @@
-use mathlib.Core.Path.{refl}
+use mathlib.Core.Path.{◌≡◌, refl, ◌∙◌}
+use Prim.Native.Nat.{suc, ◌+◌, ◌-◌, ◌≤◌, ◌<◌, ◌/◌}
 use native.Mathlib.Omega.{arith}
-use mathlib.Core.Path.{refl}
+use lib.ListN.{length}
 use borrow.Author.Rules.{rules}
-use Rattle.decode.proofs.Laws.{run_size, laws}
+use Rattle.std.proofs.Common.{add-zero}
+use Rattle.decode.specs.Entries.{marked}
+use Rattle.decode.proofs.Laws.{run_done, run_refused, run_full, run_long, run_next, run_size, run_room, marked_before, marked_now}
 use Rattle.decode.proofs.entries.run_entries.Goals as goal
+use Rattle.decode.proofs.entries.run_entries.Goals.{then-slots-index-via-then-slots-index, then-slots-index-via-else-slots-index+then-paths-used, then-sparse, else-sparse}
 
-pub loop-left-init : goal.loop-left-init
-loop-left-init c = record { within = search rules; before = search rules; records = refl; paths = refl; rest = refl }
+pub loop-k-init : goal.loop-k-init
+loop-k-init c =
+    let whole : c.args.r.count - 0 ≡ c.args.r.count = omega arith in
+    record { number = omega arith; within = search rules; before = search rules; records = refl; paths = refl; rest = rw (add-zero, whole) refl }
 
-pub measure-m-requires : goal.measure-m-requires
-measure-m-requires c = search (laws, rules)
+pub overflow_add-index : goal.overflow_add-index
+overflow_add-index c = omega (arith, c.loop-k.invariant.number, c.well_formed)
 
-pub enum_told-1 : goal.enum_told-1
-enum_told-1 c = search (laws, rules)
-
-pub shape_of-records-in-Short : goal.shape_of-records-in-Short
-shape_of-records-in-Short c = search (laws, rules)
-
-pub shape_of-paths-in-Short : goal.shape_of-paths-in-Short
-shape_of-paths-in-Short c = search (laws, rules)
-
-pub returns-in-Short : goal.returns-in-Short
-returns-in-Short c = search (laws, rules)
-
-pub enum_told-in-Fault : goal.enum_told-in-Fault
-enum_told-in-Fault c = search (laws, rules)
-
-pub shape_of-records-in-Fault : goal.shape_of-records-in-Fault
-shape_of-records-in-Fault c = search (laws, rules)
-
-pub shape_of-paths-in-Fault : goal.shape_of-paths-in-Fault
-shape_of-paths-in-Fault c = search (laws, rules)
-
-pub returns-in-Fault : goal.returns-in-Fault
-returns-in-Fault c = search (laws, rules)
-
-pub enum_known-m : goal.enum_known-m
-enum_known-m c = search (laws, rules)
-
-pub shape_of-records-then-slots-i : goal.shape_of-records-then-slots-i
-shape_of-records-then-slots-i c = search (laws, rules)
-
-pub shape_of-paths-then-slots-i : goal.shape_of-paths-then-slots-i
-shape_of-paths-then-slots-i c = search (laws, rules)
-
-pub returns-then-slots-i : goal.returns-then-slots-i
-returns-then-slots-i c = search (laws, rules)
+pub returns-in_default : goal.returns-in_default
+returns-in_default c =
+    let more : c.args.r.count - c.loop-k.k ≡ suc (c.args.r.count - (c.loop-k.k + 1)) = omega (arith, c.loop-k-test.true) in
+    run_refused _ _ _ _ _ _ _ _ _ _ _ _ _ c.loop-k.invariant.rest _ more _ c.measure.ensures _ c.in_default.is
 
 pub overflow_add-size : goal.overflow_add-size
-overflow_add-size c = omega (arith, c.well_formed, c.loop-left.invariant.paths, run_size _ _ _ _ _ _ _ c.loop-left.paths _ c.in-Entry.ensures _ _ _ _ _ refl c.loop-left.invariant.before c.loop-left.invariant.within)
+overflow_add-size c =
+    omega (arith, c.well_formed, c.loop-k.invariant.paths, run_size _ _ _ _ _ _ _ c.loop-k.paths _ c.measure.ensures _ c.in-Ok.is c.loop-k.invariant.before c.loop-k.invariant.within)
 
 pub overflow_sub-paths : goal.overflow_sub-paths
-overflow_sub-paths c = search (laws, rules)
+overflow_sub-paths c = omega (arith, c.loop-k.invariant.within)
 
-pub shape_of-records-then-paths-have : goal.shape_of-records-then-paths-have
-shape_of-records-then-paths-have c = search (laws, rules)
-
-pub shape_of-paths-then-paths-have : goal.shape_of-paths-then-paths-have
-shape_of-paths-then-paths-have c = search (laws, rules)
-
-pub returns-then-paths-have : goal.returns-then-paths-have
-returns-then-paths-have c = search (laws, rules)
+pub returns-then-slots-index : goal.returns-then-slots-index
+returns-then-slots-index c =
+    let more : c.args.r.count - c.loop-k.k ≡ suc (c.args.r.count - (c.loop-k.k + 1)) = omega (arith, c.loop-k-test.true) in
+    elim c.then-slots-index.branch [
+      | then-slots-index-via-then-slots-index w ↦
+          let full : length c.loop-k.records / 96 ≤ c.args.r.index + c.loop-k.k = omega (arith, w.if-slots-index.true, c.records_in-slots.ensures, c.loop-k.invariant.records) in
+          run_full _ _ _ _ _ _ _ _ _ _ _ _ _ c.loop-k.invariant.rest _ more _ c.measure.ensures _ c.in-Ok.is full
+      | then-slots-index-via-else-slots-index+then-paths-used w ↦
+          let slot : c.args.r.index + c.loop-k.k < length c.loop-k.records / 96 = omega (arith, w.if-slots-index.false, c.records_in-slots.ensures, c.loop-k.invariant.records) in
+          run_long _ _ _ _ _ _ _ _ _ _ _ _ _ c.loop-k.invariant.rest _ more _ c.measure.ensures _ c.in-Ok.is slot w.if-paths-used.true
+    ]
 
 pub store-requires : goal.store-requires
-store-requires c = search (laws, rules)
+store-requires c =
+    rw c.unwrap_or.ensures (run_room _ _ _ _ _ _ _ c.loop-k.paths _ c.measure.ensures _ c.in-Ok.is c.loop-k.invariant.before c.loop-k.invariant.within c.if-paths-used.false)
 
-pub mark-sparse-requires : goal.mark-sparse-requires
-mark-sparse-requires c = search (laws, rules)
-
-pub overflow_add-total : goal.overflow_add-total
-overflow_add-total c = omega (arith, c.well_formed, c.loop-left.invariant.paths, c.loop-left.invariant.within, c.if-paths-have.false)
-
-pub overflow_add-i : goal.overflow_add-i
-overflow_add-i c = omega (arith, c.if-slots-i.false, c.well_formed)
-
-pub overflow_sub-left : goal.overflow_sub-left
-overflow_sub-left c = search (laws, rules)
-
-pub loop-left-smaller : goal.loop-left-smaller
-loop-left-smaller c = search (laws, rules)
-
-pub loop-left-preserved : goal.loop-left-preserved
-loop-left-preserved c = record { within = omega arith; before = search rules; records = search rules; paths = search rules; rest = search (laws, rules) }
-
-pub shape_of-records : goal.shape_of-records
-shape_of-records c = search (laws, rules)
-
-pub shape_of-paths : goal.shape_of-paths
-shape_of-paths c = search (laws, rules)
+pub loop-k-preserved : goal.loop-k-preserved
+loop-k-preserved c =
+    let more : c.args.r.count - c.loop-k.k ≡ suc (c.args.r.count - (c.loop-k.k + 1)) = omega (arith, c.loop-k-test.true) in
+    let slot : c.args.r.index + c.loop-k.k < length c.loop-k.records / 96 = omega (arith, c.if-slots-index.false, c.records_in-slots.ensures, c.loop-k.invariant.records) in
+    let sparse : c.if-sparse.sparse ≡ marked c.args.file.now c.loop-k.at.0 c.loop-k.sparse =
+    elim c.if-sparse.branch [
+      | then-sparse w ↦ marked_before _ _ _ _ w.if-sparse.true (w.sparse-is ∙ w.if-sparse.true)
+      | else-sparse w ↦ marked_now _ _ _ _ w.if-sparse.false (w.sparse-is ∙ w.is_dir-sparse.ensures)
+    ]
+    in
+    record {
+      number = omega (arith, slot, c.loop-k.invariant.records);
+      within = omega (arith, c.if-paths-used.false, c.loop-k.invariant.within, c.store.auto.paths);
+      before = omega arith;
+      records = c.store.auto.records ∙ c.loop-k.invariant.records;
+      paths = c.store.auto.paths ∙ c.loop-k.invariant.paths;
+      rest = run_next _ _ _ _ _ _ _ _ _ _ _ _ _ c.loop-k.invariant.rest _ more _ c.measure.ensures _ c.in-Ok.is slot c.if-paths-used.false
+          (c.args.r.index + (c.loop-k.k + 1)) (omega arith) c.store.new.records c.store.new.paths c.if-sparse.sparse c.store.ensures.records_after
+          (rw c.unwrap_or.ensures at c.store.ensures.paths_after) sparse;
+    }
 
 pub returns : goal.returns
-returns c = search (laws, rules)
+returns c =
+    let none : c.args.r.count - c.loop-k.k ≡ 0 = omega (arith, c.loop-k-test.false) in
+    run_done _ _ _ _ _ _ _ _ _ _ _ _ _ c.loop-k.invariant.rest none

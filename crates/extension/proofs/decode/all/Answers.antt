@@ -1,44 +1,19 @@
-use Rattle.extension.specs.Decode.{all_at}
-use borrow.Author.Rules.{rules}
-use Rattle.extension.proofs.Laws.{walks}
+-- `extension::decode::all`: what is left comes to what the whole does. Assumes nothing.
+use Rattle.extension.proofs.Laws.{step_less, all_done, all_broken, all_forbidden, all_next}
 use Rattle.extension.proofs.decode.all.Goals as goal
 
-pub loop-place-init : goal.loop-place-init
-unfolding all_at
-loop-place-init c = search (walks, rules)
+pub returns-in_default : goal.returns-in_default
+returns-in_default c = all_broken _ _ _ c.step.ensures _ _ _ c.loop-step.invariant c.in_default.is
 
-pub step-s-requires : goal.step-s-requires
-step-s-requires c = search (walks, rules)
-
-pub enum_told-1 : goal.enum_told-1
-enum_told-1 c = search (walks, rules)
-
-pub returns-in-Done : goal.returns-in-Done
-returns-in-Done c = search (walks, rules)
-
-pub enum_told-in-Broken : goal.enum_told-in-Broken
-enum_told-in-Broken c = search (walks, rules)
-
-pub returns-in-Broken : goal.returns-in-Broken
-returns-in-Broken c = search (walks, rules)
-
-pub enum_known-s : goal.enum_known-s
-enum_known-s c = search (walks, rules)
-
-pub is_forbidden-requires : goal.is_forbidden-requires
-is_forbidden-requires c = search (walks, rules)
+pub returns-in_default-step : goal.returns-in_default-step
+returns-in_default-step c = all_done _ _ _ c.step.ensures _ _ _ c.loop-step.invariant (cc)
 
 pub returns-then-is_forbidden : goal.returns-then-is_forbidden
-returns-then-is_forbidden c = search (walks, rules)
+returns-then-is_forbidden c = all_forbidden _ _ _ c.step.ensures _ _ _ c.loop-step.invariant c.in-Some.found (cc) _ c.is_forbidden.ensures c.if-is_forbidden.true
 
-pub mark-sparse-requires : goal.mark-sparse-requires
-mark-sparse-requires c = search (walks, rules)
+pub loop-step-smaller : goal.loop-step-smaller
+loop-step-smaller c = step_less _ _ _ c.step.ensures c.in-Some.found (cc)
 
-pub latest-bodies-requires : goal.latest-bodies-requires
-latest-bodies-requires c = search (walks, rules)
-
-pub loop-place-smaller : goal.loop-place-smaller
-loop-place-smaller c = search (walks, rules)
-
-pub loop-place-preserved : goal.loop-place-preserved
-loop-place-preserved c = search (walks, rules)
+pub loop-step-preserved : goal.loop-step-preserved
+loop-step-preserved c =
+    all_next _ _ _ c.step.ensures _ _ _ c.loop-step.invariant c.in-Some.found (cc) _ c.is_forbidden.ensures c.if-is_forbidden.false _ _ c.mark-sparse.ensures c.latest-bodies.ensures

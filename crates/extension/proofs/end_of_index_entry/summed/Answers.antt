@@ -1,51 +1,22 @@
-use borrow.Author.Rules.{rules}
-use Rattle.extension.proofs.Laws.{priors}
+-- `extension::end_of_index_entry::summed`: the header that is fed lies in the file, and what is left comes to what all extensions do. Assumes nothing.
+use Rattle.extension.proofs.Laws.{step_less, head_ordered, head_inside, prior_end, prior_next}
 use Rattle.extension.proofs.end_of_index_entry.summed.Goals as goal
-
-pub new-digest-requires : goal.new-digest-requires
-new-digest-requires c = search (priors, rules)
-
-pub loop-sum-init : goal.loop-sum-init
-loop-sum-init c = search (priors, rules)
-
-pub step-s-requires : goal.step-s-requires
-step-s-requires c = search (priors, rules)
-
-pub enum_told-1 : goal.enum_told-1
-enum_told-1 c = search (priors, rules)
-
-pub finish-sum-requires : goal.finish-sum-requires
-finish-sum-requires c = search (priors, rules)
-
-pub returns-in-Done : goal.returns-in-Done
-returns-in-Done c = search (priors, rules)
-
-pub enum_told-in-Broken : goal.enum_told-in-Broken
-enum_told-in-Broken c = search (priors, rules)
-
-pub finish-sum-requires-in-Broken : goal.finish-sum-requires-in-Broken
-finish-sum-requires-in-Broken c = search (priors, rules)
-
-pub returns-in-Broken : goal.returns-in-Broken
-returns-in-Broken c = search (priors, rules)
-
-pub enum_known-s : goal.enum_known-s
-enum_known-s c = search (priors, rules)
+use Rattle.extension.proofs.end_of_index_entry.summed.Goals.{in_default, in_default-2}
 
 pub slice_bounds-feed-count : goal.slice_bounds-feed-count
-slice_bounds-feed-count c = search (priors, rules)
+slice_bounds-feed-count c = head_ordered _ _ _ c.step.ensures c.in-Ok-Some.found (cc)
 
 pub slice_bounds-feed-start : goal.slice_bounds-feed-start
-slice_bounds-feed-start c = search (priors, rules)
+slice_bounds-feed-start c = head_ordered _ _ _ c.step.ensures c.in-Ok-Some.found (cc)
 
 pub slice_bounds-feed-end : goal.slice_bounds-feed-end
-slice_bounds-feed-end c = search (priors, rules)
+slice_bounds-feed-end c = head_inside _ _ _ c.step.ensures c.in-Ok-Some.found (cc)
 
-pub feed-fed-requires : goal.feed-fed-requires
-feed-fed-requires c = search (priors, rules)
+pub loop-found-smaller : goal.loop-found-smaller
+loop-found-smaller c = step_less _ _ _ c.step.ensures c.in-Ok-Some.found (cc)
 
-pub loop-sum-smaller : goal.loop-sum-smaller
-loop-sum-smaller c = search (priors, rules)
+pub loop-found-preserved : goal.loop-found-preserved
+loop-found-preserved c = prior_next _ _ _ c.step.ensures _ _ _ c.loop-found.invariant c.in-Ok-Some.found (cc) _ c.feed-digest.ensures
 
-pub loop-sum-preserved : goal.loop-sum-preserved
-loop-sum-preserved c = search (priors, rules)
+pub returns : goal.returns
+returns c = prior_end _ _ _ c.step.ensures _ _ _ c.loop-found.invariant (λ f q. elim c.match-step.branch [ in_default w ↦ cc | in_default-2 w ↦ cc ]) _ c.finish-sum.ensures

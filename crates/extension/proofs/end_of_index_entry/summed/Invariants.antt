@@ -7,8 +7,8 @@ use Rattle.kind.specs.Sha1.{sha1_kind}
 use Rattle.extension.proofs.Laws.{left_over}
 use Rattle.extension.proofs.end_of_index_entry.summed.Given as goal
 
-abbrev pub invariant-loop-sum : goal.invariant-loop-sum
-invariant-loop-sum l = left_over l.file l.digest l.last (run_at l.file l.here.at.0 l.here.end.0) ≡ prior_at sha1_kind l.file l.initial.here.at.0 l.initial.here.end.0
+abbrev pub invariant-loop-found : goal.invariant-loop-found
+invariant-loop-found l = left_over l.file l.digest l.last (run_at l.file l.here.at.0 l.here.end.0) ≡ prior_at sha1_kind l.file l.initial.here.at.0 l.initial.here.end.0
 
-abbrev pub decreases-loop-sum : goal.decreases-loop-sum
-decreases-loop-sum l = l.here.end.0 - l.here.at.0
+abbrev pub decreases-loop-found : goal.decreases-loop-found
+decreases-loop-found l = l.here.end.0 - l.here.at.0

@@ -4,8 +4,8 @@ use mathlib.Core.Path.{◌≡◌}
 use Rattle.extension.specs.Iter.{first_at}
 use Rattle.extension.proofs.iter.first_of.Given as goal
 
-abbrev pub invariant-loop-signature : goal.invariant-loop-signature
-invariant-loop-signature l = first_at l.file l.here.at.0 l.here.end.0 l.wanted ≡ first_at l.file l.initial.here.at.0 l.initial.here.end.0 l.wanted
+abbrev pub invariant-loop-found : goal.invariant-loop-found
+invariant-loop-found l = first_at l.file l.here.at.0 l.here.end.0 l.wanted ≡ first_at l.file l.initial.here.at.0 l.initial.here.end.0 l.wanted
 
-abbrev pub decreases-loop-signature : goal.decreases-loop-signature
-decreases-loop-signature l = l.here.end.0 - l.here.at.0
+abbrev pub decreases-loop-found : goal.decreases-loop-found
+decreases-loop-found l = l.here.end.0 - l.here.at.0

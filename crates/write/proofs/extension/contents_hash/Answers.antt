@@ -4,14 +4,8 @@ use Rattle.write.proofs.Laws.{parts}
 use borrow.Author.Rules.{rules}
 use Rattle.write.proofs.extension.contents_hash.Goals as goal
 
-pub slice_bounds-put_tree_head-end : goal.slice_bounds-put_tree_head-end
-slice_bounds-put_tree_head-end c = search (parts, rules)
-
 pub put_tree_head-middle-requires : goal.put_tree_head-middle-requires
 put_tree_head-middle-requires c = search (parts, rules)
-
-pub slice_bounds-put_sparse-end : goal.slice_bounds-put_sparse-end
-slice_bounds-put_sparse-end c = search (parts, rules)
 
 pub put_sparse-end-requires : goal.put_sparse-end-requires
 put_sparse-end-requires c = search (parts, rules)
@@ -21,9 +15,6 @@ slice_bounds-toc-end c = search (parts, rules)
 
 pub slice_bounds-sha1_of-end : goal.slice_bounds-sha1_of-end
 slice_bounds-sha1_of-end c = sym (length-take-le _ _ (search (parts, rules)))
-
-pub sha1_of-requires : goal.sha1_of-requires
-sha1_of-requires c = search (parts, rules)
 
 pub returns : goal.returns
 returns c = search (parts, rules)

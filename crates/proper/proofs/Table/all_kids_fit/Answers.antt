@@ -1,0 +1,20 @@
+-- `proper::Table::all_kids_fit` meets its contract. Assumes nothing.
+use native.Mathlib.Nat.{sub-zero}
+use Rattle.std.specs.Prelude.{refl}
+use Rattle.std.proofs.Common.{rules, tests, ◌∙◌, ap}
+use Rattle.std.proofs.lemmas.Iterator.{YieldsList-from_range}
+use Rattle.std.proofs.lemmas.Iterator.Search.{all_from_yields_List}
+use Rattle.walk_order.specs.Depth.{all_is}
+use Rattle.proper.specs.Proper.{all_in, kids_fit}
+use Rattle.proper.proofs.Walked.{walking-laws}
+use Rattle.proper.proofs.Table.all_kids_fit.Goals as goal
+
+pub invariant_of-walked : goal.invariant_of-walked
+invariant_of-walked c = record { walks = search (walking-laws, rules) }
+
+pub returns : goal.returns
+returns c =
+    let n = c.nodes_in.result in
+    let each = kids_fit c.args.self.nodes.now c.args.self.names.now in
+    let all = all_from_yields_List each _ _ _ c.all.ensures.ran (YieldsList-from_range 0 n n refl (sub-zero n)) (λ x b q k. search (rules, tests)) in
+    all ∙ all_is each n 0 ∙ ap (λ k. all_in each k 0) c.nodes_in.ensures

@@ -1,0 +1,19 @@
+-- `proper::WalkedTable::kids` meets its contract. Assumes nothing.
+use Rattle.std.proofs.Common.{rules}
+use Rattle.proper.proofs.Walked.{listing-laws}
+use Rattle.proper.proofs.WalkedTable.kids.Goals as goal
+
+pub loop-c-init : goal.loop-c-init
+loop-c-init c = search (listing-laws, rules)
+
+pub loop-c-smaller : goal.loop-c-smaller
+loop-c-smaller c = search (listing-laws, rules)
+
+pub loop-c-preserved : goal.loop-c-preserved
+loop-c-preserved c = search (listing-laws, rules)
+
+pub returns-then-so : goal.returns-then-so
+returns-then-so c = search (listing-laws, rules)
+
+pub returns-else-so : goal.returns-else-so
+returns-else-so c = search (listing-laws, rules)

@@ -1,0 +1,2 @@
+-- What the proofs of replay cite. Assumes nothing.
+pub mod Laws

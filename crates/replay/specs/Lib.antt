@@ -1,0 +1,2 @@
+-- The modules of replay that contracts cite.
+pub mod Cases

@@ -1,0 +1,122 @@
+// What several of the programs do: they read their input, go over its cases, make node tables, and print bytes and refusals.
+//
+// No clause can say which bytes reach the system, so the functions that print have none; the stored output of each program shows what they print.
+// The functions that answer a vector may run out of memory; that they succeed otherwise is shown by the same outputs.
+
+#![tactic(auto)]
+
+ghost use Rattle.std.specs.Prelude.{◌≡◌, ◌≤◌, ◌*◌, length, take, IfOk, IfSome, vec_len};
+ghost use Rattle.std.specs.Iterator.{at_most};
+ghost use Rattle.std.specs.Io.{StartsWith};
+ghost use Rattle.replay.specs.Cases.{GivesFirst};
+
+use node::Node;
+use std::alloc::{AllocError, Global};
+use std::fs::File;
+use std::io::{ErrorKind, Read, Result};
+
+// Up to so many bytes of a reader. Where a read fails, the input ends there; only a lack of memory is an error.
+pub fn read_up_to<R: Read + Drop>(from: R, most: usize, alloc: Global) -> Result<Vec<u8>>
+    ensures bound { IfOk result (λ v. vec_len v ≤ most) }
+    ensures first { IfOk result (λ v. IfSome (R.remaining from) (λ xs. StartsWith (take most xs) v.items)) }
+{
+    let mut bytes = Vec::new(alloc);
+    match from.take(most as u64).read_to_end(&mut bytes) {
+        Err(why) if why.kind() == ErrorKind::OutOfMemory => Err(why),
+        _ => {
+            // of a reader whose bytes are not known, no contract says that it gives no more
+            bytes.truncate(most);
+            Ok(bytes)
+        }
+    }
+}
+
+// Up to so many bytes of the file of that name; none where it cannot be opened, which is said on standard error.
+pub fn load(rt: &HostRuntime, name: &str, most: usize) -> Result<Option<Vec<u8>>>
+    ensures { IfOk result (λ r. IfSome r (λ v. vec_len v ≤ most)) }
+{
+    match File::open(rt, name) {
+        Ok(file) => Ok(Some(read_up_to(file, most, rt.alloc())?)),
+        Err(why) => {
+            let _ = eprintln!(rt; "{name}: {why}");
+            Ok(None)
+        }
+    }
+}
+
+// Prints bytes in hexadecimal digits.
+pub fn print_hex(rt: &impl Print, bytes: &[u8]) -> Result<()> {
+    for byte in bytes {
+        print!(rt; "{byte:02x}")?;
+    }
+    Ok(())
+}
+
+// Prints the line of a refusal, with the value that it carries, if any.
+pub fn print_refused(rt: &impl Print, number: u32, carried: Option<usize>) -> Result<()> {
+    let mut line = [0u8; 64];
+    let size = lines::write_refused(number, carried.map(|v| v as u64), &mut line);
+    rt.write_all(line.get(..size).unwrap_or(&[]))
+}
+
+// The cases of a list, each with its length in two bytes before it. One that is cut short ends the list.
+#[derive(Drop)]
+pub struct Cases<'a> {
+    rest: &'a [u8],
+}
+
+impl<'a> Cases<'a> {
+    pub fn of(list: &'a [u8]) -> Cases<'a>
+        ensures { result.rest.now ≡ list.now }
+    {
+        Cases { rest: list }
+    }
+}
+
+impl<'a> Iterator for Cases<'a> {
+    type Item = &'a [u8];
+
+    ghost next_gives = { λ s r t. GivesFirst s.rest.now r t.rest.now };
+
+    ghost remaining = { λ s. at_most (length s.rest.now) };
+
+    fn next(&mut self) -> Option<&'a [u8]> {
+        let (size, rest) = self.rest.split_first_chunk::<2>()?;
+        let (case, rest) = rest.split_at_checked(u16::from_be_bytes(*size) as usize)?;
+        self.rest = rest;
+        Some(case)
+    }
+}
+
+// A node of a table that a program makes: its name, which is a part of the table's names, its counts and its parent.
+#[derive(Clone, Copy)]
+pub struct Row {
+    pub name: &'static str,
+    pub count: u64,
+    pub subtrees: u64,
+    pub parent: u64,
+}
+
+// The node table of these rows. Each node's id is the first twenty bytes of the names.
+pub fn node_table(
+    alloc: Global,
+    names: &str,
+    rows: &[Row],
+) -> std::result::Result<Vec<u8>, AllocError>
+    ensures { IfOk result (λ v. vec_len v ≡ length rows.now * 72) }
+{
+    let mut nodes = vec![in alloc; 0u8; rows.len().saturating_mul(node::NODE_SIZE)]?;
+    for (i, row) in rows.iter().enumerate() {
+        let start = names.find(row.name).unwrap_or(0);
+        let head = Node {
+            start,
+            stop: start.saturating_add(row.name.len()),
+            count: row.count,
+            subtrees: row.subtrees,
+            id: 0,
+            next: 20,
+        };
+        node::put_node(names.as_bytes(), head, row.parent, &mut nodes, i);
+    }
+    Ok(nodes)
+}

@@ -1,0 +1,12 @@
+use Rattle.write_entries.proofs.Laws.{laws}
+use borrow.Author.Rules.{rules}
+use Rattle.write_entries.proofs.Record.put.Goals as goal
+
+pub returns-then-is_removed : goal.returns-then-is_removed
+returns-then-is_removed c = search (laws, rules)
+
+pub returns-then-out-at : goal.returns-then-out-at
+returns-then-out-at c = search (laws, rules)
+
+pub returns : goal.returns
+returns c = search (laws, rules)
