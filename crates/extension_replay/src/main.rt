@@ -4,7 +4,7 @@
 
 #![tactic(auto)]
 
-ghost use Rattle.std.specs.Prelude.{length};
+ghost use Rattle.std.specs.Prelude.{◌≡◌, length, IfOk, vec_len};
 ghost use Rattle.std.specs.Iterator.{at_most};
 
 use extension::index_entry_offset_table::Offset;
@@ -27,7 +27,9 @@ fn digit(c: u8) -> u8 {
 }
 
 // The bytes that the digits of a line spell, two for each.
-fn unhex(alloc: Global, digits: &[[u8; 2]]) -> std::result::Result<Vec<u8>, AllocError> {
+fn unhex(alloc: Global, digits: &[[u8; 2]]) -> std::result::Result<Vec<u8>, AllocError>
+    ensures { IfOk result (λ v. vec_len v ≡ length digits.now) }
+{
     digits
         .iter()
         .map(|[high, low]| (digit(*high) << 4) | digit(*low))

@@ -44,10 +44,10 @@ pub fn load(rt: &HostRuntime, name: &str, most: usize) -> Result<Option<Vec<u8>>
     }
 }
 
-// Prints bytes in hexadecimal digits.
+// Prints bytes in hexadecimal digits, which the contract of `show::hex_byte` tells.
 pub fn print_hex(rt: &impl Print, bytes: &[u8]) -> Result<()> {
     for byte in bytes {
-        print!(rt; "{byte:02x}")?;
+        rt.write_all(&show::hex_byte(*byte))?;
     }
     Ok(())
 }

@@ -1,4 +1,4 @@
-// Bytes copied, zeroed, compared and searched by the library's methods. A contract of a copy is one paste: what stood at the place is replaced, and all else is as it was.
+// Bytes copied, zeroed, compared and searched, by the library's methods but for the copy from one slice to another. A contract of a copy is one paste: what stood at the place is replaced, and all else is as it was.
 
 #![tactic(auto)]
 
@@ -6,13 +6,16 @@ ghost use Rattle.std.specs.Prelude.{◌≡◌, ◌+◌, ◌≤◌, length, take,
 ghost use Rattle.std.proofs.Math.Seq.{paste};
 ghost use Rattle.slices.specs.Bytes.{same_bytes, nul_at};
 
-// Copies n bytes of src from `from` on into dst from `to` on.
+// Copies n bytes of src from `from` on into dst from `to` on. By a loop: the library's `copy_from_slice` is compiled to a call of memmove, a name that a program in C
+// without a C library would have to bring.
 pub fn copy_bytes(src: &[u8], from: usize, n: usize, dst: &mut [u8], to: usize)
     requires n_in_bounds { from + n ≤ length src.now }
     requires n_in_bounds_2 { to + n ≤ length dst.old }
     ensures { dst.new ≡ paste dst.old to (drop from src.now) n }
 {
-    dst[to..to + n].copy_from_slice(&src[from..from + n]);
+    for j in 0..n {
+        dst[to + j] = src[from + j];
+    }
 }
 
 // Copies n bytes of s from `from` on to `to` on, which lies behind them.

@@ -3,6 +3,8 @@
 
 #![tactic(auto)]
 
+ghost use Rattle.std.specs.Prelude.{◌≤◌, IfOk, vec_len};
+
 use file::Reading;
 use std::alloc::{AllocError, Global};
 use std::env;
@@ -102,8 +104,10 @@ fn show_written(rt: &impl Print, table: &Table, file: &[u8], rust: &[u8]) -> Res
     }
 }
 
-// The file of that name, empty where it cannot be opened.
-fn load(rt: &HostRuntime, name: &str) -> Result<Vec<u8>> {
+// The file of that name, as much of it as there is room for; empty where it cannot be opened.
+fn load(rt: &HostRuntime, name: &str) -> Result<Vec<u8>>
+    ensures { IfOk result (λ v. vec_len v ≤ 8192) }
+{
     let file = replay::load(rt, name, MOST_BYTES)?;
     Ok(file.unwrap_or(Vec::new(rt.alloc())))
 }
