@@ -45,11 +45,12 @@ fn fixed_size(flags: u32) -> usize
     }
 }
 
-// How many bytes the entry of a path has: at least one NUL stands behind the path, up to the next multiple of 8.
+// How many bytes the entry of a path has: at least one NUL stands behind the path, up to the next multiple of 8. Written out: with `next_multiple_of` sizing a table
+// took half as many instructions more.
 fn entry_size(flags: u32, path: &[u8]) -> usize
     ensures { result ≡ whole_of (fixed_of id_size flags) (length path.now) }
 {
-    (fixed_size(flags) + path.len() + 1).next_multiple_of(ENTRY_ALIGN)
+    (fixed_size(flags) + path.len() + ENTRY_ALIGN) / ENTRY_ALIGN * ENTRY_ALIGN
 }
 
 // Record i of a table, whose paths lie in a store.
