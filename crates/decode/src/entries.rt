@@ -16,8 +16,8 @@ const SANS_ID: usize = 42;
 fn entries_block_size_in_bytes(size: usize, extensions: Option<usize>, id: usize) -> usize
     ensures { result ≡ block_size size extensions id }
 {
-    let end = extensions.unwrap_or(size.saturating_sub(id));
-    end.saturating_sub(format::HEADER_SIZE)
+    let end = extensions.unwrap_or(sums::saturating_sub(size, id));
+    sums::saturating_sub(end, format::HEADER_SIZE)
 }
 
 // The least that an entry takes: the fixed part to a multiple of 8, or in version 4 with a strip of one byte and a NUL.

@@ -19,7 +19,7 @@ use Rattle.entry.specs.Paths.{Paths}
 use Rattle.entry.specs.Record.{mode_at, id_at, stage_at, path_at}
 use Rattle.entry.specs.Laws.{id_is, id_out}
 use Rattle.lines.specs.Lines.{octal, head_of, line_of, line_at, lines_from, refused_word, tail_of, refused_text, tail_with, refused_with}
-use Rattle.sums.specs.Cap.{largest, cap, cap_fits, cap_cap, cap_small, min_cap}
+use Rattle.sums.specs.Cap.{largest, cap, cap_fits, cap_cap, cap_small}
 use Rattle.lines.specs.Written.{copied, text_short, text_fits, text_written}
 
 -- ---- a line
@@ -250,6 +250,6 @@ module _ (number : ℕ) (o : Option ℕ) (d : List ℕ) (room : length (refused_
       let q : next ≡ 0 + length (refused_word ++ ds) = omega (arith, length-append refused_word ds) in
       e₃ ∙ (λ k. put (i₂ k) (q k) (tail_with o)) ∙ put_put d (refused_word ++ ds) (tail_with o) 0 (omega arith)
 
-pub ruleset laws = (octal_six, head_put, line_head, line_room, line_next, line_put, size_small, size_start, size_end, size_turn, fill_start, fill_fits, fill_room, fill_left, fill_end, fill_more, text_short, text_fits, text_written, min_cap)
+pub ruleset laws = (octal_six, head_put, line_head, line_room, line_next, line_put, size_small, size_start, size_end, size_turn, fill_start, fill_fits, fill_room, fill_left, fill_end, fill_more, text_short, text_fits, text_written)
 
 pub ruleset refused-laws = (refused_some, refused_none, tail_room, tail_carried, tail_slot, tail_alone, refused_word_lem, refused_number, refused_tail, refused_put)

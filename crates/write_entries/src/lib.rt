@@ -178,7 +178,7 @@ pub fn size_entries(records: &[u8], paths: &[u8]) -> Result<Sized, Outside>
         }
         version = version_with(record.flags(), version);
         count += record.count();
-        size = size.saturating_add(record.size());
+        size = sums::saturating_add(size, record.size());
     }
     Ok(Sized {
         version,
