@@ -44,7 +44,12 @@ pub fn same(a: &[u8], i: usize, b: &[u8], j: usize, n: usize) -> bool
     requires n_in_bounds_2 { j + n ≤ length b.now }
     ensures { result ≡ same_bytes (take n (drop i a.now)) (take n (drop j b.now)) }
 {
-    a[i..i + n] == b[j..j + n]
+    for k in 0..n {
+        if a[i + k] != b[j + k] {
+            return false;
+        }
+    }
+    true
 }
 
 // The place of the first NUL from `at` on and before `end`.
