@@ -166,7 +166,7 @@ module _ (ns nm : List ℕ) (w : walks depth_limit ns ≡ true) (p last : ℕ) w
           pair : Rising
           pair = record { last = b; bytes = so.bytes; git = so.git }
 
-    listing_end : c ≡ 0 → (rising : Bool) → rising ≡ pick so.bytes true so.git → Seen ns nm p (record { count = count; rising = rising })
+    pub listing_end : c ≡ 0 → (rising : Bool) → rising ≡ pick so.bytes true so.git → Seen ns nm p (record { count = count; rising = rising })
     unfolding child_count
     listing_end z rising e = record {
       count = let none : child_count ns p c 1 ≡ 0 = rw z in omega (arith, inv.run);

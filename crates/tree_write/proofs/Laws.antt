@@ -17,7 +17,8 @@ use Rattle.laws.specs.Order.{Comparison, below, equal, beyond, compared, Compare
 use Rattle.sums.specs.Cap.{largest, cap, cap_fits, cap_over, cap_small, cap_le, cap_below, cap_cap}
 use Rattle.wire.specs.Written.{digits_of}
 use Rattle.format.specs.Format.{depth_limit, id_size}
-use Rattle.node.specs.Store.{nodes_in, count_at, subtrees_at, parent_at, name_at}
+use Rattle.node.specs.Head.{minus_one}
+use Rattle.node.specs.Store.{nodes_in, count_at, subtrees_at, parent_at, id_at, name_at}
 use Rattle.siblings.specs.Siblings.{is_child}
 use Rattle.siblings.specs.Rising.{is_below}
 use Rattle.siblings.specs.Rising as rising
@@ -41,6 +42,20 @@ bytes_put d d₁ xs k e = e ∙ paste_put d xs k (length xs) refl
 
 pub byte_put : (d : List ℕ) (k b : ℕ) → k < length d → set d k b ≡ put d k (b ∷ [])
 byte_put d k b h = set-put d k b h
+
+-- ---- an id
+
+-- the id of a node that has one, of which x is a copy
+module _ (ns : List ℕ) (i count : ℕ) (ec : count ≡ count_at ns i) where
+  id_in : (count ≡ minus_one → ⊥) → id_bytes id_size ns i ≡ id_at id_size ns i
+  unfolding id_bytes
+  id_in h = rw (ne_eqb (count_at ns i) minus_one (λ q. h (ec ∙ q)))
+
+  pub id_long : (count ≡ minus_one → ⊥) → (x : List ℕ) → x ≡ id_at id_size ns i → length x ≡ length (id_bytes id_size ns i)
+  id_long h x e = ap length (e ∙ sym (id_in h))
+
+  pub id_room_lem : (count ≡ minus_one → ⊥) → (x : List ℕ) → x ≡ id_at id_size ns i → (k m : ℕ) → k + length (id_bytes id_size ns i) ≤ m → k + length x ≤ m
+  id_room_lem h x e k m r = omega (arith, id_long h x e)
 
 -- ---- a head's parts
 

@@ -89,13 +89,13 @@ module _ (ns nm : List ℕ) (writes : Bool) where
   pub length_unwritten : writes ≡ false → 0 ≡ cap (length (tree_of id_size depth_limit ns nm writes))
   length_unwritten h = sym (ap (λ (t : List ℕ). cap (length t)) (unwritten h) ∙ cap_fits 0 (omega arith))
 
-  put_written : writes ≡ true → (d d₁ : List ℕ) (k : ℕ) → k + length (tree_of id_size depth_limit ns nm writes) ≤ length d → d₁ ≡ put_fit d k (tree_bytes id_size depth_limit ns nm) → d₁ ≡ put d k (tree_of id_size depth_limit ns nm writes)
+  pub put_written : writes ≡ true → (d d₁ : List ℕ) (k : ℕ) → k + length (tree_of id_size depth_limit ns nm writes) ≤ length d → d₁ ≡ put_fit d k (tree_bytes id_size depth_limit ns nm) → d₁ ≡ put d k (tree_of id_size depth_limit ns nm writes)
   unfolding put_fit
   put_written h d d₁ k room e =
       let l : k + length (tree_bytes id_size depth_limit ns nm) ≤ length d = omega (arith, ap length (written h)) in
       e ∙ (rw (le-leb (k + length (tree_bytes id_size depth_limit ns nm)) (length d) l)) ∙ ap (λ (t : List ℕ). put d k t) (sym (written h))
 
-  put_unwritten : writes ≡ false → (d : List ℕ) (k : ℕ) → d ≡ put d k (tree_of id_size depth_limit ns nm writes)
+  pub put_unwritten : writes ≡ false → (d : List ℕ) (k : ℕ) → d ≡ put d k (tree_of id_size depth_limit ns nm writes)
   put_unwritten h d k = sym (ap (λ (t : List ℕ). put d k t) (unwritten h) ∙ put_none d k)
 
 module _ (ns nm : List ℕ) (tree : Option ℕ) where

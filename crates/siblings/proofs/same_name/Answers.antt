@@ -1,7 +1,7 @@
--- `siblings::same_name` meets its contract. Assumes nothing.
+-- `siblings::same_name` meets its contract. Names of different lengths differ. Assumes nothing.
 use Rattle.std.proofs.Common.{rules}
-use Rattle.siblings.proofs.Laws.{same_is}
+use Rattle.siblings.proofs.Laws.{same_names, other_names_lem}
 use Rattle.siblings.proofs.same_name.Goals as goal
 
 pub returns : goal.returns
-returns c = rw (← same_is) (search rules)
+returns c = search (same_names, other_names_lem, rules)
