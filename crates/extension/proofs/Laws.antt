@@ -152,4 +152,6 @@ module _ (s : List ℕ) (offset start : ℕ) (p : Prior) (e : p ≡ prior_at sha
 
 pub ruleset sums = (sum_room, told, ends)
 
+pub ruleset bodies = (head_ordered, head_inside, body_ordered, body_inside)
+
 pub ruleset priors = (prior_start)
