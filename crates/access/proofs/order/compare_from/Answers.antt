@@ -4,17 +4,25 @@ use Rattle.access.proofs.order.compare_from.Goals as goal
 
 pub returns-in-None-None : goal.returns-in-None-None
 returns-in-None-None c =
-    rw (c.in-None-None.is-0, c.in-None-None.is-1) at (gets_ranked _ _ _ _ c.agree_from-k.ensures _ _ c.get.ensures.lookup.0 c.get-2.ensures.lookup.0 c.get.ensures.lookup.1 c.get-2.ensures.lookup.1)
+    let x = c.get.ensures.lookup in
+    let y = c.get-2.ensures.lookup in
+    rw (c.in-None-None.is-0, c.in-None-None.is-1) at (gets_ranked _ _ _ _ c.agree_from-k.ensures _ _ x.0 y.0 x.1 y.1)
 
 pub returns-in-None-Some : goal.returns-in-None-Some
 returns-in-None-Some c =
-    rw (c.in-None-Some.is-0, c.in-None-Some.is-1) at (gets_ranked _ _ _ _ c.agree_from-k.ensures _ _ c.get.ensures.lookup.0 c.get-2.ensures.lookup.0 c.get.ensures.lookup.1 c.get-2.ensures.lookup.1)
+    let x = c.get.ensures.lookup in
+    let y = c.get-2.ensures.lookup in
+    rw (c.in-None-Some.is-0, c.in-None-Some.is-1) at (gets_ranked _ _ _ _ c.agree_from-k.ensures _ _ x.0 y.0 x.1 y.1)
 
 pub returns-in-Some-None : goal.returns-in-Some-None
 returns-in-Some-None c =
-    rw (c.in-Some-None.is-0, c.in-Some-None.is-1) at (gets_ranked _ _ _ _ c.agree_from-k.ensures _ _ c.get.ensures.lookup.0 c.get-2.ensures.lookup.0 c.get.ensures.lookup.1 c.get-2.ensures.lookup.1)
+    let x = c.get.ensures.lookup in
+    let y = c.get-2.ensures.lookup in
+    rw (c.in-Some-None.is-0, c.in-Some-None.is-1) at (gets_ranked _ _ _ _ c.agree_from-k.ensures _ _ x.0 y.0 x.1 y.1)
 
 pub returns-in-Some-Some : goal.returns-in-Some-Some
 returns-in-Some-Some c =
-    let ranked = rw (c.in-Some-Some.is-0, c.in-Some-Some.is-1) at (gets_ranked _ _ _ _ c.agree_from-k.ensures _ _ c.get.ensures.lookup.0 c.get-2.ensures.lookup.0 c.get.ensures.lookup.1 c.get-2.ensures.lookup.1) in
+    let x = c.get.ensures.lookup in
+    let y = c.get-2.ensures.lookup in
+    let ranked = rw (c.in-Some-Some.is-0, c.in-Some-Some.is-1) at (gets_ranked _ _ _ _ c.agree_from-k.ensures _ _ x.0 y.0 x.1 y.1) in
     cc
