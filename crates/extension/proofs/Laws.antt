@@ -154,6 +154,8 @@ module _ (s : List ℕ) (offset start : ℕ) (p : Prior) (e : p ≡ prior_at sha
 
 pub ruleset sums = (sum_room, told, ends)
 
+pub ruleset bodies = (head_ordered, head_inside, body_ordered, body_inside)
+
 -- where an EOIE would lie stands an extension of another size
 module _ (s : List ℕ) where
   module _ (h : 52 ≤ length s) (a : ℕ) (ea : a ≡ be_at 4 s (length s - 52)) where

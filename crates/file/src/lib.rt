@@ -248,7 +248,7 @@ fn read_entries(
 
 // Reads an index file into three lent stores: records, their paths one behind the other, and the nodes of the last TREE. Refusals 1 to 4 touch nothing; 5 and 6 leave
 // the entries before the one they name; 7 and 8 leave all entries; 9 and 10 leave all entries and a node store of zeros.
-#[tactic(auto, unfolding(crate::specs::Read::read_file))]
+#[tactic(auto, using(crate::proofs::Laws::long_enough), unfolding(crate::specs::Read::read_file))]
 pub fn read(
     file: &[u8],
     records: &mut [u8],
