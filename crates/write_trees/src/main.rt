@@ -159,7 +159,8 @@ fn put_many_runs(nodes: &mut [u8]) {
 }
 
 // Equal names go by their places, so this is no proper table; it is written all the same. Shown are its size and the bytes where the last a ends and
-// the first b begins.
+// the first b begins. Its stores are large, and main's frame is not to hold them while a chain is shown.
+#[inline(never)]
 fn show_many_runs(rt: &impl Print) -> Result<()> {
     let names = NAMES.as_bytes();
     let mut nodes = [0u8; (BY_TURNS + 5) * NODE];
