@@ -173,7 +173,10 @@ pub fn lies_inside(records: &[u8], paths: &[u8], i: usize) -> bool
     }
     let start = path_start_at(records, i) as usize;
     let end = path_end_at(records, i) as usize;
-    start <= end && end <= paths.len()
+    if end < start {
+        return false;
+    }
+    end <= paths.len()
 }
 
 // The path of record i, a part of the path store; the empty part where it lies outside. Nobody asks for a path in another way.

@@ -79,8 +79,10 @@ impl<'a> Record<'a> {
     fn has_fault(self) -> bool
         ensures { result ≡ fault_at self.entry.records.now (lying_in self.entry.paths.now) self.entry.i }
     {
-        !entry::flags::is_removed(self.flags())
-            && !entry::lies_inside(self.records, self.paths, self.i)
+        if entry::flags::is_removed(self.flags()) {
+            return false;
+        }
+        !entry::lies_inside(self.records, self.paths, self.i)
     }
 
     // 1 if it is written.
