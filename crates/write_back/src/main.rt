@@ -32,11 +32,6 @@ struct Table<'a> {
     options: Options,
 }
 
-// The first n bytes of a store, or all.
-fn first(store: &[u8], n: usize) -> &[u8] {
-    store.get(..n).unwrap_or(store)
-}
-
 // Whether what was written is what the Rust wrote, and its SHA-1.
 fn show_bytes(rt: &impl Print, written: &[u8], rust: &[u8]) -> Result<()> {
     let not = if written == rust { "" } else { "NOT " };
@@ -62,7 +57,7 @@ fn show_written(rt: &impl Print, table: Table<'_>, file: &[u8], rust: &[u8]) -> 
     ) {
         Ok(Written { version, size }) => {
             print!(rt; ": version {version} size {size}")?;
-            show_bytes(rt, first(&out, size), rust)
+            show_bytes(rt, out.get(..size).unwrap_or(&out), rust)
         }
         Err(Error::PathOutside { index }) => show_refused(rt, refusal::PATH_OUTSIDE, Some(index)),
         Err(Error::NotProper) => show_refused(rt, refusal::NOT_PROPER, None),
@@ -89,9 +84,11 @@ fn show_file(rt: &impl Print, file: &[u8], rust: &[u8]) -> Result<()> {
         return println!(rt; ": refused");
     };
     let table = Table {
-        records: first(&records, n.saturating_mul(RECORD)),
-        paths: first(&paths, path_bytes),
-        nodes: first(&nodes, tree.unwrap_or(0).saturating_mul(NODE)),
+        records: records.get(..n.saturating_mul(RECORD)).unwrap_or(&records),
+        paths: paths.get(..path_bytes).unwrap_or(&paths),
+        nodes: nodes
+            .get(..tree.unwrap_or(0).saturating_mul(NODE))
+            .unwrap_or(&nodes),
         // made here, as in each program that writes: what crate `replay` makes, the programs that only read have to wait for
         options: Options {
             tree: tree.is_some(),
