@@ -89,7 +89,11 @@ impl<'a> Record<'a> {
     fn count(self) -> usize
         ensures { result ≡ kept_of self.entry.records.now self.entry.i }
     {
-        usize::from(!entry::flags::is_removed(self.flags()))
+        if entry::flags::is_removed(self.flags()) {
+            0
+        } else {
+            1
+        }
     }
 
     // How many bytes are written of it.
@@ -98,10 +102,9 @@ impl<'a> Record<'a> {
     {
         let flags = self.flags();
         if entry::flags::is_removed(flags) {
-            0
-        } else {
-            entry_size(flags, self.path())
+            return 0;
         }
+        entry_size(flags, self.path())
     }
 
     // Its bytes before a path of len bytes, with the 16 bits behind EXTENDED in any case. They are made in an array: the compiler knows that this overlaps
