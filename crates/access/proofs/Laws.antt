@@ -55,6 +55,12 @@ agree_past a b k h = ⊎_elim first second (lt_or_ge (length a) (length b))
     second : length b ≤ length a → agreeing (drop k a) (drop k b) ≡ 0
     second l = let e : drop k b ≡ [] = drop_of_length-le b {i = k} (omega arith) in rw e (none_agree (drop k a))
 
+-- past the end of the first as many agree as were found
+module _ (a b : List ℕ) (k r : ℕ) (inv : k + agreeing (drop k a) (drop k b) ≡ r) where
+  pub agree_first : length a ≤ k → k ≡ r
+  unfolding agreeing
+  agree_first h = let e : drop k a ≡ [] = drop_of_length-le a {i = k} h in omega (arith, rw e at inv)
+
 module _ (a b : List ℕ) (k r : ℕ) (inv : k + agreeing (drop k a) (drop k b) ≡ r) (h : k < length a) (l : k < length b) where
   pub agree_part : (get_or a k 0 ≡ get_or b k 0 → ⊥) → k ≡ r
   unfolding agreeing

@@ -36,11 +36,12 @@ struct Key<'a> {
 
 impl Key<'_> {
     // How it stands to another: by path, then by stage.
-    #[tactic(auto, using(crate::proofs::Laws::orderings))]
     fn compare(self, other: Key) -> Ordering
         ensures { result ≡ placed self.entry.path.now self.entry.stage other.entry.path.now other.entry.stage }
     {
-        order::compare(self.path, other.path).then(self.stage.cmp(&other.stage))
+        let by_path = order::compare(self.path, other.path);
+        let by_stage = order::compare_stages(self.stage, other.stage);
+        order::then(by_path, by_stage)
     }
 }
 

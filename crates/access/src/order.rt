@@ -54,7 +54,12 @@ fn compare_from(a: &[u8], b: &[u8], from: usize) -> Ordering
     ensures { result ≡ order_of (compared (drop from a.now) (drop from b.now)) }
 {
     let k = agree_from(a, b, from);
-    a.get(k).cmp(&b.get(k))
+    match (a.get(k), b.get(k)) {
+        (None, None) => Ordering::Equal,
+        (None, Some(_)) => Ordering::Less,
+        (Some(_), None) => Ordering::Greater,
+        (Some(x), Some(y)) => x.cmp(y),
+    }
 }
 
 // How path a stands to path b. Eight bytes that differ stand as the numbers that they spell.

@@ -5,7 +5,7 @@
 
 #![tactic(auto)]
 
-ghost use Rattle.std.specs.Prelude.{length};
+ghost use Rattle.std.specs.Prelude.{◌≡◌, length};
 ghost use Rattle.std.specs.Iterator.{at_most};
 
 use access::{Found, verify};
@@ -14,6 +14,9 @@ use std::io::Result;
 
 // The most that is read of the list of cases.
 const LIST_ROOM: usize = 262144;
+
+// Room for 256 records; a case has 255 at most.
+const TABLE_ROOM: usize = 24576;
 
 // An entry without its path: every record is made of zeros, but for its stage and its path.
 const ENTRY: [u8; 60] = [0; 60];
@@ -27,7 +30,9 @@ fn byte_at(case: &[u8], i: usize) -> u8 {
 }
 
 // Puts a case's records into a table, whose path store is the case itself, and answers where they end.
-fn fill_table(case: &[u8], n: usize, records: &mut [u8]) -> usize {
+fn fill_table(case: &[u8], n: usize, records: &mut [u8]) -> usize
+    ensures { length records.new ≡ length records.old }
+{
     let mut at: usize = 2;
     for i in 0..n {
         let flags = byte_at(case, at) as u32 * STAGE;
@@ -103,13 +108,15 @@ fn show_answers(rt: &impl Print, case: &[u8], records: &[u8], at: usize) -> Resu
 }
 
 fn main(rt: HostRuntime) -> Result<()> {
-    let list = replay::read_up_to(rt.stdin(), LIST_ROOM, rt.alloc())?;
-    for case in Cases::of(&list) {
+    // arrays, since a vector could lack memory, and no answer is to depend on that
+    let mut room = [0u8; LIST_ROOM];
+    let mut table = [0u8; TABLE_ROOM];
+    let size = replay::fill(rt.stdin(), &mut room);
+    for case in Cases::of(&room[..size]) {
         let n = byte_at(case, 1) as usize;
-        let mut records = vec![in rt.alloc(); 0u8; n * entry::RECORD_SIZE]?;
-        let at = fill_table(case, n, &mut records);
+        let at = fill_table(case, n, &mut table);
         // what cannot be printed is left out
-        let _ = show_answers(&rt, case, &records, at);
+        let _ = show_answers(&rt, case, &table[..n * entry::RECORD_SIZE], at);
     }
     Ok(())
 }

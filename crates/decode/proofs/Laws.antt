@@ -2,9 +2,10 @@
 use mathlib.Core.Path.{◌≡◌, refl, sym, ap, ◌∙◌}
 use mathlib.Core.Bool.{Bool, true, false}
 use mathlib.Core.List.{List}
-use Prim.Native.Nat.{ℕ, suc, ◌+◌, ◌-◌, ◌/◌, ◌≤◌, ◌<◌}
+use Prim.Native.Nat.{ℕ, suc, ◌+◌, ◌-◌, ◌*◌, ◌/◌, ◌≤◌, ◌<◌}
 use native.Mathlib.Omega.{arith}
 use lib.ListN.{length, take, drop}
+use lib.Dec.{eqb}
 use lib.Seq.{paste}
 use borrow.Author.Tests.{lt-ltb, le-ltb, le-leb, lt-leb}
 use Rattle.laws.specs.Pick.{pick}
@@ -18,6 +19,7 @@ use Rattle.entry.specs.Mode.{dir_at}
 use Rattle.entry.specs.Record.{put_record}
 use Rattle.measure.specs.Entry.{measure_at}
 use Rattle.measure.specs.Inside.{Inside, measured_inside}
+use Rattle.decode.specs.Bounds.{min_entry_size}
 use Rattle.decode.specs.Entries.{path_of, marked, Room, Outcome, outcome, run}
 use Rattle.std.specs.Prelude.{max, Err, Ok, Option, Result, is_none, unwrap_or}
 use Rattle.decode.specs.Made.{done_at}
@@ -25,6 +27,17 @@ use Rattle.decode.specs.declared.entries.Error.TheVariants.{NoRoom, NotSpelled}
 use Rattle.measure.specs.declared.Measured.{Measured}
 use Rattle.measure.specs.declared.Unspelled.{Unspelled}
 use Rattle.measure.specs.declared.Unspelled.TheVariants.{Fault, Short}
+
+-- ---- bounds
+
+-- no entry is without bytes
+pub least_some : (v id m : ℕ) → m ≡ min_entry_size v id → 0 < m
+unfolding min_entry_size
+least_some v id m e = by (eqb v 4) e
+  where
+    by : (t : Bool) → m ≡ pick t (42 + id + 2) ((42 + id + 7) / 8 * 8) → 0 < m
+    by true q = omega arith
+    by false q = omega arith
 
 -- ---- one entry stored
 pub path_put : (s ps p₁ p₂ : List ℕ) (keep suffix len prev used : ℕ) → p₁ ≡ paste ps used (drop (used - prev) ps) keep → p₂ ≡ paste p₁ (used + keep) (drop suffix s) len
@@ -41,6 +54,11 @@ module _ (s : List ℕ) (end : FileAt) (version n i : ℕ) (at : FileAt) (used :
   pub run_done : n ≡ 0 → outcome (Ok (done_at at used sparse)) rs ps ≡ r
   unfolding run
   run_done z = sym (rw z) ∙ inv
+
+  -- one entry and what is left behind it
+  module _ (more : 0 < n) (m : Result Measured Unspelled) (e : m ≡ measure_at id_size s at.0 end.0 version first prev) where
+    pub one_more_lem : run id_size s end version (suc (n - 1)) i at used first prev sparse rs ps ≡ r
+    one_more_lem = let e : suc (n - 1) ≡ n = omega arith in ap (λ (k : ℕ). run id_size s end version k i at used first prev sparse rs ps) e ∙ inv
 
   module _ (left : ℕ) (more : n ≡ suc left) (m : Result Measured Unspelled) (e : m ≡ measure_at id_size s at.0 end.0 version first prev) where
     one_more : run id_size s end version (suc left) i at used first prev sparse rs ps ≡ r

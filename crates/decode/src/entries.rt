@@ -6,6 +6,7 @@ ghost use Rattle.format.specs.Format.{id_size, id_room};
 ghost use Rattle.decode.specs.Bounds.{block_size, min_entry_size, max_entries};
 ghost use Rattle.decode.specs.Entries.{RoomFor, with_record, with_path, outcome, run_of, read_entries};
 
+use measure::Unspelled;
 use wire::{FileAt, PathAt};
 
 // An entry's fixed part but for the id: ten fields of 32 bits and 16 flag bits.
@@ -16,8 +17,8 @@ const SANS_ID: usize = 42;
 fn entries_block_size_in_bytes(size: usize, extensions: Option<usize>, id: usize) -> usize
     ensures { result ≡ block_size size extensions id }
 {
-    let end = extensions.unwrap_or(size.saturating_sub(id));
-    end.saturating_sub(format::HEADER_SIZE)
+    let end = extensions.unwrap_or(sums::saturating_sub(size, id));
+    sums::saturating_sub(end, format::HEADER_SIZE)
 }
 
 // The least that an entry takes: the fixed part to a multiple of 8, or in version 4 with a strip of one byte and a NUL.
@@ -132,8 +133,10 @@ fn run_entries(
     let mut sparse = false;
     for k in 0..r.count {
         let index = r.index + k;
-        let Ok(m) = measure::measure(file, at, r.end, r.version, path) else {
-            return Err(Error::NotSpelled(index));
+        let m = match measure::measure(file, at, r.end, r.version, path) {
+            Ok(m) => m,
+            Err(Unspelled::Short) => return Err(Error::NotSpelled(index)),
+            Err(Unspelled::Fault) => return Err(Error::NotSpelled(index)),
         };
         let size = m.keep + m.len;
         if slots <= index || paths.len() - used.0 < size {

@@ -225,9 +225,9 @@ fn replay(rt: &impl Print, list: &[u8], zeros: usize) {
 }
 
 fn main(rt: HostRuntime) -> Result<()> {
-    let mut list = replay::read_up_to(rt.stdin(), LIST_ROOM, rt.alloc())?;
-    let zeros = LIST_ROOM - list.len();
-    list.resize(LIST_ROOM, 0)?;
-    replay(&rt, &list, zeros);
+    // an array, since a vector could lack memory, and no answer is to depend on that
+    let mut room = [0u8; LIST_ROOM];
+    let n = replay::fill(rt.stdin(), &mut room);
+    replay(&rt, &room, LIST_ROOM - n);
     Ok(())
 }

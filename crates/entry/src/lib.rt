@@ -173,7 +173,10 @@ pub fn lies_inside(records: &[u8], paths: &[u8], i: usize) -> bool
     }
     let start = path_start_at(records, i) as usize;
     let end = path_end_at(records, i) as usize;
-    start <= end && end <= paths.len()
+    if end < start {
+        return false;
+    }
+    end <= paths.len()
 }
 
 // The path of record i, a part of the path store; the empty part where it lies outside. Nobody asks for a path in another way.
@@ -186,5 +189,9 @@ pub fn path_of<'a>(records: &[u8], paths: &'a [u8], i: usize) -> &'a [u8]
     }
     let start = path_start_at(records, i) as usize;
     let end = path_end_at(records, i) as usize;
-    paths.get(start..end).unwrap_or(&paths[0..0])
+    // two tests, as `lies_inside` makes them: the compiler then leaves them out where that was asked first
+    if end < start || paths.len() < end {
+        return &paths[0..0];
+    }
+    &paths[start..end]
 }

@@ -6,8 +6,9 @@ use Prim.Native.Nat.{ℕ, ◌+◌, ◌-◌, ◌*◌, ◌≤◌, ◌<◌}
 use native.Mathlib.Omega.{arith}
 use lib.ListN.{length, take, drop}
 use lib.Seq.{take_all}
-use borrow.Author.Tests.{eq-eqb, ne_eqb}
+use borrow.Author.Tests.{le-ltb, eq-eqb, ne_eqb}
 use Rattle.slices.specs.Bytes.{same_bytes}
+use Rattle.wire.specs.BigEndian.{be_at}
 use Rattle.format.specs.Format.{id_size}
 use Rattle.sha1_hash.specs.Sha1.{sha1}
 use Rattle.sha1_hash.specs.Length.{length-sha1}
@@ -15,11 +16,12 @@ use Rattle.sha1_hash.specs.Pieces.{digest_after, fed, finished, fed_all}
 use Rattle.sha1_hash.specs.Theorems.{pieces_finish}
 use Rattle.sha1_hash.specs.declared.Digest.{Digest}
 use Rattle.kind.specs.Sha1.{sha1_kind}
+use Rattle.extension.specs.Signatures.{EOIE}
 use Rattle.extension.specs.Iter.{step_at, Run, run_at, first_where, last_where, first_at}
 use Rattle.extension.specs.Theorems.{Met, met, Tabled, tabled, run_done, run_broken, run_more}
 use Rattle.extension.specs.Decode.{forbidden, marks, latest_of, sparse_in, judged, all_from}
 use Rattle.extension.specs.IndexEntryOffsetTable.{table_at}
-use Rattle.extension.specs.EndOfIndexEntry.{headers_of, last_body, prior_at}
+use Rattle.extension.specs.EndOfIndexEntry.{headers_of, last_body, prior_at, offset_at, offset_in}
 use Rattle.extension.specs.declared.end_of_index_entry.Prior.{Prior}
 use Rattle.extension.specs.declared.iter.Cursor.{Cursor}
 use Rattle.extension.specs.declared.decode.Bodies.{Bodies}
@@ -151,5 +153,15 @@ module _ (s : List ℕ) (offset start : ℕ) (p : Prior) (e : p ≡ prior_at sha
   ends = ap (λ (x : Prior). x.last) e
 
 pub ruleset sums = (sum_room, told, ends)
+
+pub ruleset bodies = (head_ordered, head_inside, body_ordered, body_inside)
+
+-- where an EOIE would lie stands an extension of another size
+module _ (s : List ℕ) where
+  module _ (h : 52 ≤ length s) (a : ℕ) (ea : a ≡ be_at 4 s (length s - 52)) where
+    module _ (wa : a ≡ EOIE) (b : ℕ) (eb : b ≡ be_at 4 s (length s - 52 + 4)) where
+      pub offset_size_lem : (b ≡ 24 → ⊥) → None ≡ offset_in sha1_kind s
+      unfolding offset_in offset_at
+      offset_size_lem w = sym (rw (le-ltb (length s) 52 h, ← ea, eq-eqb a EOIE wa, ← eb, ne_eqb b 24 w))
 
 pub ruleset priors = (prior_start)

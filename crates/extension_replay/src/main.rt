@@ -4,12 +4,11 @@
 
 #![tactic(auto)]
 
-ghost use Rattle.std.specs.Prelude.{length};
+ghost use Rattle.std.specs.Prelude.{◌≤◌, length};
 ghost use Rattle.std.specs.Iterator.{at_most};
 
 use extension::index_entry_offset_table::Offset;
 use extension::{end_of_index_entry, index_entry_offset_table};
-use std::alloc::{AllocError, Global};
 use std::io::Result;
 use wire::FileAt;
 
@@ -26,12 +25,14 @@ fn digit(c: u8) -> u8 {
     }
 }
 
-// The bytes that the digits of a line spell, two for each.
-fn unhex(alloc: Global, digits: &[[u8; 2]]) -> std::result::Result<Vec<u8>, AllocError> {
-    digits
-        .iter()
-        .map(|[high, low]| (digit(*high) << 4) | digit(*low))
-        .collect(alloc)
+// Puts the bytes that the digits of a line spell, two for each, into a store, as far as that has room, and answers how many they are.
+fn unhex(digits: &[[u8; 2]], bytes: &mut [u8]) -> usize
+    ensures { result ≤ length bytes.new }
+{
+    for (byte, [high, low]) in bytes.iter_mut().zip(digits) {
+        *byte = (digit(*high) << 4) | digit(*low);
+    }
+    digits.len().min(bytes.len())
 }
 
 // The lines of a list, each a letter and its pairs of digits, which go to the line's end, or as far as there is room.
@@ -127,11 +128,14 @@ fn show_answer(rt: &impl Print, letter: u8, bytes: &[u8]) -> Result<()> {
 }
 
 fn main(rt: HostRuntime) -> Result<()> {
-    let list = replay::read_up_to(rt.stdin(), LIST_ROOM, rt.alloc())?;
-    for (letter, digits) in (Lines { rest: &list }) {
-        let bytes = unhex(rt.alloc(), digits)?;
+    // arrays, since a vector could lack memory, and no answer is to depend on that
+    let mut room = [0u8; LIST_ROOM];
+    let mut bytes = [0u8; LINE_ROOM];
+    let n = replay::fill(rt.stdin(), &mut room);
+    for (letter, digits) in (Lines { rest: &room[..n] }) {
+        let size = unhex(digits, &mut bytes);
         // what cannot be printed is left out
-        let _ = show_answer(&rt, letter, &bytes);
+        let _ = show_answer(&rt, letter, &bytes[..size]);
     }
     Ok(())
 }

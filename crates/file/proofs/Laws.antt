@@ -1,13 +1,12 @@
 -- What a header that is one says of the file. Assumes nothing.
-use Rattle.std.specs.Prelude.{◌≡◌, ℕ, ◌+◌, ◌≤◌, Bool, true, false, List, length, ltb, eqb, Err, Ok, Result}
-use Rattle.std.proofs.Common.{arith, refl, sym, ◌∙◌}
+use Rattle.std.specs.Prelude.{◌≡◌, ℕ, ◌+◌, ◌≤◌, Bool, true, false, List, length, ltb, eqb, Err, Ok}
+use Rattle.std.proofs.Common.{arith, refl}
 use borrow.Author.Tests.{ltb-false}
 use Rattle.laws.specs.Pick.{pick}
 use Rattle.wire.specs.BigEndian.{be_at}
 use Rattle.format.specs.Format.{header_size, id_size}
 use Rattle.decode.specs.Header.{signature, on_version, header_at}
 use Rattle.decode.specs.declared.header.Header.{Header}
-use Rattle.decode.specs.declared.header.Error.{Error as HeaderError}
 use Rattle.decode.specs.declared.header.Error.TheVariants.{NoSignature, ShortFile}
 
 -- a file whose header opens is long enough for a trailer

@@ -7,7 +7,7 @@ ghost use Rattle.wire.specs.declared.FileAt.{FileAt};
 ghost use Rattle.format.specs.Format.{depth_limit, id_size};
 ghost use Rattle.kind.specs.Sha1.{sha1_kind};
 ghost use Rattle.file.specs.Trailer.{good_trailer};
-ghost use Rattle.file.specs.Answer.{number_of, carries_of, value_carried, of_header, of_entries, of_space, of_tree};
+ghost use Rattle.file.specs.Answer.{number_of, carries_of, value_of, value_carried, of_header, of_entries, of_space, of_tree};
 ghost use Rattle.file.specs.Read.{outcome, marked, with_tree, extensions_into, entries_into, read_file};
 
 use decode::entries::Before;
@@ -122,16 +122,16 @@ pub fn carries(a: Result<Reading, Error>) -> bool
     )
 }
 
-// The value that an answer carries with its number, if it carries one.
-pub fn carried(a: Result<Reading, Error>) -> Option<u64>
-    ensures { result ≡ value_carried a }
+// The value of a refusal that carries one; 0 elsewhere.
+fn value(a: Result<Reading, Error>) -> u64
+    ensures { result ≡ value_of a }
 {
     match a {
-        Err(Error::OtherVersion(v)) => Some(v as u64),
-        Err(Error::NotSpelled(k)) => Some(k as u64),
-        Err(Error::NoEntryRoom(k)) => Some(k as u64),
-        Err(Error::NotFilled(p)) => Some(p as u64),
-        Err(Error::Mandatory(s)) => Some(s as u64),
+        Err(Error::OtherVersion(v)) => v as u64,
+        Err(Error::NotSpelled(k)) => k as u64,
+        Err(Error::NoEntryRoom(k)) => k as u64,
+        Err(Error::NotFilled(p)) => p as u64,
+        Err(Error::Mandatory(s)) => s as u64,
         Err(
             Error::ShortFile
             | Error::NoSignature
@@ -139,8 +139,15 @@ pub fn carried(a: Result<Reading, Error>) -> Option<u64>
             | Error::TooDeep
             | Error::NoNodeRoom,
         )
-        | Ok(_) => None,
+        | Ok(_) => 0,
     }
+}
+
+// The value that an answer carries with its number, if it carries one.
+pub fn carried(a: Result<Reading, Error>) -> Option<u64>
+    ensures { result ≡ value_carried a }
+{
+    carries(a).then_some(value(a))
 }
 
 // Whether the trailer is zeros or the SHA-1 of all before it. Zeros are seen first, so that such a file is not hashed.
@@ -241,7 +248,7 @@ fn read_entries(
 
 // Reads an index file into three lent stores: records, their paths one behind the other, and the nodes of the last TREE. Refusals 1 to 4 touch nothing; 5 and 6 leave
 // the entries before the one they name; 7 and 8 leave all entries; 9 and 10 leave all entries and a node store of zeros.
-#[tactic(auto, unfolding(crate::specs::Read::read_file))]
+#[tactic(auto, using(crate::proofs::Laws::long_enough), unfolding(crate::specs::Read::read_file))]
 pub fn read(
     file: &[u8],
     records: &mut [u8],

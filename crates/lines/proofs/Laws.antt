@@ -1,7 +1,9 @@
 -- Laws of a line's bytes, of the lines of a table and of a refusal's line, turned the way that the needs ask. Assumes nothing.
 use mathlib.Core.Path.{◌≡◌, refl, sym, ap, ◌∙◌}
+use mathlib.Core.Bool.{Bool, true, false}
 use mathlib.Core.List.{List, [], ◌∷◌, ◌++◌}
 use mathlib.Core.Logic.{⊎_elim}
+use Rattle.std.specs.Bool.{then_some}
 use Rattle.std.specs.Prelude.{Option, Some, None}
 use Prim.Native.Nat.{ℕ, zero, suc, ◌+◌, ◌-◌, ◌*◌, ◌/◌, ◌%◌, ◌^◌, ◌≤◌, ◌<◌}
 use native.Mathlib.Nat.{sub-zero, pow-suc}
@@ -18,8 +20,8 @@ use Rattle.show.specs.Hex.{hex, length-hex}
 use Rattle.entry.specs.Paths.{Paths}
 use Rattle.entry.specs.Record.{mode_at, id_at, stage_at, path_at}
 use Rattle.entry.specs.Laws.{id_is, id_out}
-use Rattle.lines.specs.Lines.{octal, head_of, line_of, line_at, lines_from, refused_word, tail_of, refused_text, tail_with, refused_with}
-use Rattle.sums.specs.Cap.{largest, cap, cap_fits, cap_cap, cap_small, min_cap}
+use Rattle.lines.specs.Lines.{octal, head_of, line_of, line_at, lines_from, refused_word, tail_of, refused_text, tail_with, refused_with, refused_flag}
+use Rattle.sums.specs.Cap.{largest, cap, cap_fits, cap_cap, cap_small}
 use Rattle.lines.specs.Written.{copied, text_short, text_fits, text_written}
 
 -- ---- a line
@@ -205,6 +207,14 @@ module _ (number digits : ℕ) (o : Option ℕ) (ed : digits ≡ length (digits_
   pub refused_none : o ≡ None → 8 + digits + 1 ≡ length (refused_with number o)
   refused_none e = omega (arith, length_refused number o, length_none o e)
 
+-- the same where a flag says whether the value is carried
+module _ (number value digits more : ℕ) (carries : Bool) (ed : digits ≡ length (digits_of 10 number)) where
+  pub refused_carried : carries ≡ true → more ≡ length (digits_of 10 value) → 10 + digits + more ≡ length (refused_text number carries value)
+  refused_carried c em = omega (arith, refused_some number digits (then_some carries value) ed value more (ap (λ (t : Bool). then_some t value) c) em, ap length (refused_flag number value carries))
+
+  pub refused_alone : carries ≡ false → 9 + digits ≡ length (refused_text number carries value)
+  refused_alone c = omega (arith, refused_none number digits (then_some carries value) ed (ap (λ (t : Bool). then_some t value) c), ap length (refused_flag number value carries))
+
 module _ (o : Option ℕ) (d : List ℕ) (to : ℕ) (room : to + length (tail_with o) ≤ length d) where
   module _ (value : ℕ) (e : o ≡ Some value) where
     pub tail_room : to + 2 + length (digits_of 10 value) ≤ length d
@@ -250,6 +260,6 @@ module _ (number : ℕ) (o : Option ℕ) (d : List ℕ) (room : length (refused_
       let q : next ≡ 0 + length (refused_word ++ ds) = omega (arith, length-append refused_word ds) in
       e₃ ∙ (λ k. put (i₂ k) (q k) (tail_with o)) ∙ put_put d (refused_word ++ ds) (tail_with o) 0 (omega arith)
 
-pub ruleset laws = (octal_six, head_put, line_head, line_room, line_next, line_put, size_small, size_start, size_end, size_turn, fill_start, fill_fits, fill_room, fill_left, fill_end, fill_more, text_short, text_fits, text_written, min_cap)
+pub ruleset laws = (octal_six, head_put, line_head, line_room, line_next, line_put, size_small, size_start, size_end, size_turn, fill_start, fill_fits, fill_room, fill_left, fill_end, fill_more, text_short, text_fits, text_written)
 
 pub ruleset refused-laws = (refused_some, refused_none, tail_room, tail_carried, tail_slot, tail_alone, refused_word_lem, refused_number, refused_tail, refused_put)

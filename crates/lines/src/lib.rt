@@ -114,7 +114,7 @@ impl Listing<'_> {
         let mut size: usize = 0;
         for i in 0..self.n {
             let path = entry::path_of(self.records, self.paths, i);
-            size = size.saturating_add(LINE_SIZE + path.len());
+            size = sums::saturating_add(size, LINE_SIZE + path.len());
         }
         size
     }

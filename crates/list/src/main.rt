@@ -14,10 +14,11 @@ fn listing<'a>(file: &[u8], out: &'a mut [u8; list_text::LISTING_ROOM]) -> &'a [
 }
 
 fn main(rt: HostRuntime) -> Result<()> {
-    let file = replay::read_up_to(rt.stdin(), MOST_BYTES, rt.alloc())?;
-    // what is lent is a store of a fixed size
+    // arrays, since a vector could lack memory, and a listing never does
+    let mut room = [0u8; MOST_BYTES];
     let mut out = [0u8; list_text::LISTING_ROOM];
+    let n = replay::fill(rt.stdin(), &mut room);
     // what cannot be printed is left out
-    let _ = rt.write_all(listing(&file, &mut out));
+    let _ = rt.write_all(listing(&room[..n], &mut out));
     Ok(())
 }

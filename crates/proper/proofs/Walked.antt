@@ -1,5 +1,5 @@
 -- Laws of the pass over a table in walk order: the children of a node listed from the last to the first, and the nodes that each climb leaves. Assumes nothing.
-use mathlib.Core.Bool.{Bool, true, false}
+use mathlib.Core.Bool.{Bool, true, false, ◌||◌}
 use mathlib.Core.Path.{◌≡◌, refl, sym, ap, ◌∙◌, subst}
 use mathlib.Core.Logic.{◌⊎◌, inl, inr, ⊎_elim}
 use mathlib.Core.List.{List}
@@ -166,7 +166,7 @@ module _ (ns nm : List ℕ) (w : walks depth_limit ns ≡ true) (p last : ℕ) w
           pair : Rising
           pair = record { last = b; bytes = so.bytes; git = so.git }
 
-    listing_end : c ≡ 0 → (rising : Bool) → rising ≡ pick so.bytes true so.git → Seen ns nm p (record { count = count; rising = rising })
+    pub listing_end : c ≡ 0 → (rising : Bool) → rising ≡ pick so.bytes true so.git → Seen ns nm p (record { count = count; rising = rising })
     unfolding child_count
     listing_end z rising e = record {
       count = let none : child_count ns p c 1 ≡ 0 = rw z in omega (arith, inv.run);
@@ -178,6 +178,14 @@ module _ (ns nm : List ℕ) (w : walks depth_limit ns ≡ true) (p last : ℕ) w
             distinct_differ nm ns p 1 (nodes_in ns) (λ i j a l m x y n. irreflexive (subst (λ (v : List ℕ). Before (name_at nm ns j) v) n (inv.bytes es i j a (omega arith) l m x y)))
         by false es t et q =
             distinct_differ nm ns p 1 (nodes_in ns) (λ i j a l m x y n. git_irreflexive (name_at nm ns j) (subst (λ (v : List ℕ). GitBefore (name_at nm ns j) v) n (inv.git (et ∙ q) i j a (omega arith) l m x y)))
+
+    -- as `kids` says it
+    pub listing_either : c ≡ 0 → (rising : Bool) → rising ≡ (so.bytes || so.git) → Seen ns nm p (record { count = count; rising = rising })
+    listing_either z rising e = listing_end z rising (e ∙ by so.bytes)
+      where
+        by : (s : Bool) → (s || so.git) ≡ pick s true so.git
+        by true = refl
+        by false = refl
 
     pub listing_bytes : c ≡ 0 → so.bytes ≡ true → Seen ns nm p (record { count = count; rising = so.bytes })
     listing_bytes z h = listing_end z so.bytes (h ∙ sym (rw h))
@@ -454,7 +462,7 @@ module _ (ns nm : List ℕ) (w : walks depth_limit ns ≡ true) (n j : ℕ) (inv
 pub shallow_walks : (ns : List ℕ) (t : Bool) → t ≡ walks_within depth_limit ns → t ≡ true → walks depth_limit ns ≡ true
 shallow_walks ns t e h = within_walks depth_limit ns (sym e ∙ h)
 
-pub ruleset listing-laws = (listing_start, listing_less, listing_more, listing_bytes, listing_git)
+pub ruleset listing-laws = (listing_start, listing_less, listing_more, listing_either)
 
 pub ruleset pair-laws = (twinless_some, twinless_start, twinless_end, twinless_found, twinless_less, twinless_more, differing_start, differing_end, differing_child, differing_found, differing_less, differing_more)
 

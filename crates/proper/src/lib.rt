@@ -182,7 +182,7 @@ impl WalkedTable<'_> {
         }
         WalkedKids {
             count,
-            rising: so.bytes || so.git,
+            rising: so.bytes | so.git,
         }
     }
 

@@ -9,26 +9,39 @@ ghost use Rattle.std.specs.Prelude.{◌≡◌, ◌≤◌, ◌*◌, length, take,
 ghost use Rattle.std.specs.Iterator.{at_most};
 ghost use Rattle.std.specs.Io.{StartsWith};
 ghost use Rattle.replay.specs.Cases.{GivesFirst};
+ghost use Rattle.replay.specs.Rows.{PutsRow};
 
 use node::Node;
 use std::alloc::{AllocError, Global};
 use std::fs::File;
-use std::io::{ErrorKind, Read, Result};
+use std::io::{Read, Result};
+
+// Reads into the room until it is full or the input ends, and answers how many bytes came. Where a read fails, the input ends there. Each read has all the room
+// that is left, since of a packet the system throws away what a read has no room for.
+pub fn fill<R: Read + Drop>(mut from: R, room: &mut [u8]) -> usize
+    ensures bound { result ≤ length room.new }
+    ensures kept { length room.new ≡ length room.old }
+    ensures first { IfSome (R.remaining from) (λ xs. StartsWith xs (take result room.new)) }
+{
+    let mut filled = 0;
+    while filled < room.len() {
+        match from.read(&mut room[filled..]) {
+            Ok(n) if n > 0 => filled += n,
+            _ => return filled,
+        }
+    }
+    filled
+}
 
 // Up to so many bytes of a reader. Where a read fails, the input ends there; only a lack of memory is an error.
 pub fn read_up_to<R: Read + Drop>(from: R, most: usize, alloc: Global) -> Result<Vec<u8>>
     ensures bound { IfOk result (λ v. vec_len v ≤ most) }
     ensures first { IfOk result (λ v. IfSome (R.remaining from) (λ xs. StartsWith (take most xs) v.items)) }
 {
-    let mut bytes = Vec::new(alloc);
-    match from.take(most as u64).read_to_end(&mut bytes) {
-        Err(why) if why.kind() == ErrorKind::OutOfMemory => Err(why),
-        _ => {
-            // of a reader whose bytes are not known, no contract says that it gives no more
-            bytes.truncate(most);
-            Ok(bytes)
-        }
-    }
+    let mut bytes = vec![in alloc; 0u8; most]?;
+    let size = fill(from, &mut bytes);
+    bytes.truncate(size);
+    Ok(bytes)
 }
 
 // Up to so many bytes of the file of that name; none where it cannot be opened, which is said on standard error.
@@ -44,10 +57,10 @@ pub fn load(rt: &HostRuntime, name: &str, most: usize) -> Result<Option<Vec<u8>>
     }
 }
 
-// Prints bytes in hexadecimal digits.
+// Prints bytes in hexadecimal digits, which the contract of `show::hex_byte` tells.
 pub fn print_hex(rt: &impl Print, bytes: &[u8]) -> Result<()> {
     for byte in bytes {
-        print!(rt; "{byte:02x}")?;
+        rt.write_all(&show::hex_byte(*byte))?;
     }
     Ok(())
 }
@@ -97,7 +110,23 @@ pub struct Row {
     pub parent: u64,
 }
 
-// The node table of these rows. Each node's id is the first twenty bytes of the names.
+// Makes a row node i of a table that is lent. Its id is the first twenty bytes of the names.
+pub fn put_row(names: &str, row: Row, nodes: &mut [u8], i: usize)
+    ensures { PutsRow names.now row nodes.old i nodes.new }
+{
+    let start = names.find(row.name).unwrap_or(0);
+    let head = Node {
+        start,
+        stop: start.saturating_add(row.name.len()),
+        count: row.count,
+        subtrees: row.subtrees,
+        id: 0,
+        next: 20,
+    };
+    node::put_node(names.as_bytes(), head, row.parent, nodes, i);
+}
+
+// The node table of these rows.
 pub fn node_table(
     alloc: Global,
     names: &str,
@@ -107,16 +136,7 @@ pub fn node_table(
 {
     let mut nodes = vec![in alloc; 0u8; rows.len().saturating_mul(node::NODE_SIZE)]?;
     for (i, row) in rows.iter().enumerate() {
-        let start = names.find(row.name).unwrap_or(0);
-        let head = Node {
-            start,
-            stop: start.saturating_add(row.name.len()),
-            count: row.count,
-            subtrees: row.subtrees,
-            id: 0,
-            next: 20,
-        };
-        node::put_node(names.as_bytes(), head, row.parent, &mut nodes, i);
+        put_row(names, *row, &mut nodes, i);
     }
     Ok(nodes)
 }

@@ -4,9 +4,10 @@ use Rattle.std.proofs.lemmas.Slice.{take-put_mid}
 use Rattle.std.specs.List.{fold}
 use Rattle.std.specs.Simd.{first_chunks}
 use borrow.Rule.Slice.PartMut.{put_mid, mid_of, same_len_mid}
+use lib.ListN.{length-replicate}
 use lib.Seq.{paste, take-paste, drop-length}
 use Rattle.wire.specs.BigEndian.{bytes_of, length-bytes}
-use Rattle.laws.specs.Lists.{take-replicate}
+use Rattle.laws.specs.Lists.{length_part, take-replicate}
 use Rattle.sha1_hash.specs.Sha1.{compress, hash_blocks, hash_all, zeros_of, padding}
 use Rattle.sha1_hash.specs.Pieces.{last_part, feed_state, filled, fed}
 use Rattle.sha1_hash.specs.declared.Digest.{Digest}
@@ -32,6 +33,20 @@ module _ (block piece ys zs : List ℕ) (n end : ℕ) (long : length block ≡ 6
       let cleared : zs ≡ replicate (64 - length s) 0 = zeros ∙ ap (λ (k : ℕ). replicate k 0) count in
       let rest : drop (64 - end) (drop end copied) ≡ [] = drop_of_length-le (drop end copied) {i = 64 - end} (omega arith) in
       (λ i. start i ++ (cleared i ++ rest i)) ∙ ap (λ (l : List ℕ). s ++ l) (append-nil (replicate (64 - length s) 0))
+
+-- a part of a block and a part of a piece behind it fill a block
+module _ (block b : List ℕ) (n from m : ℕ) (long : length block ≡ 64) (fits : n + m ≤ 64) (inside : from + m ≤ length b) where
+  joined : List ℕ
+  joined = take n block ++ take m (drop from b)
+
+  joined_length : length joined ≡ n + m
+  unfolding joined
+  joined_length = length-append (take n block) (take m (drop from b)) ∙ rw (length-take-le n block (omega arith), length_part m from b inside)
+
+  pub filled_long : (d : List ℕ) → d ≡ filled (take n block ++ take m (drop from b)) → length d ≡ 64
+  unfolding filled joined
+  filled_long d e =
+      ap length e ∙ length-append joined (replicate (64 - length joined) 0) ∙ omega (arith, joined_length, length-replicate {A = ℕ} (64 - length joined) 0)
 
 -- ---- blocks
 

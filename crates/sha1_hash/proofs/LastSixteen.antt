@@ -1,9 +1,12 @@
 -- Laws of the window over a list of words: of t words it has the last sixteen, word i at place i modulo 16 (`Held`), and the round puts word t where word t - 16 stood
 -- (`held_more`). Earlier words count no more (`rounds_same`). Assumes nothing.
-use Rattle.std.proofs.Common.{◌≡◌, ℕ, zero, suc, ◌+◌, ◌-◌, ◌%◌, ◌<◌, ◌≤◌, List, [], ◌∷◌, ◌++◌, length, get_or, set, sym, refl, ap, ◌∙◌, ⊎_elim, eq-or-lt_of_le, arith, length-append, length-set, get_or-set_other, get_or-set_same}
+use Rattle.std.proofs.Common.{◌≡◌, ℕ, zero, suc, ◌+◌, ◌-◌, ◌*◌, ◌%◌, ◌<◌, ◌≤◌, List, [], ◌∷◌, ◌++◌, length, get_or, take, set, replicate, sym, refl, ap, ◌∙◌, ⊎_elim, eq-or-lt_of_le, arith, length-append, length-set, length-take-le, get_or-set_other, get_or-take, get_or-set_same}
+use mathlib.Core.List.{flatten}
 use lib.Bits.{bit_xor}
 use lib.ListN.{get_or-append}
 use lib.Seq.{get_or_at}
+use Rattle.laws.specs.Lists.{get_or_right}
+use Rattle.laws.specs.Tests.{lt_or_ge}
 use Rattle.sha1_hash.specs.Sha1.{rotl, mix_of, const_of, next_word, extend, Five, turn, rounds}
 
 -- ---- words
@@ -64,6 +67,41 @@ module _ (ws : List ℕ) (t : ℕ) (w : List ℕ) (held : Held ws t w) (late : 1
         long = length-set w (t % 16) x ∙ held.long;
         place = λ i h k. let upto : i ≤ t = omega arith in ⊎_elim (λ same. rw same (new_place x e)) (λ before. old_place x i before k) (eq-or-lt_of_le upto);
       }
+
+-- a window that is repeated has each word at its number
+abbrev pub repeated : ℕ → List ℕ → List ℕ
+repeated t w = take t (flatten (replicate 5 w))
+
+module _ (w : List ℕ) (long : length w ≡ 16) where
+  length-repeated : (n : ℕ) → length (flatten (replicate n w)) ≡ n * 16
+  unfolding flatten
+  length-repeated zero = refl
+  length-repeated (suc n) = length-append w (flatten (replicate n w)) ∙ omega (arith, length-repeated n)
+
+  repeated_place : (n i : ℕ) → i < n * 16 → get_or (flatten (replicate n w)) i 0 ≡ get_or w (i % 16) 0
+  unfolding flatten
+  repeated_place zero i h = absurd (omega arith)
+  repeated_place (suc n) i h =
+      let more = flatten (replicate n w) in
+      ⊎_elim
+      (λ first. let q : i % 16 ≡ i = omega arith in rw q (get_or-append w more 0 i (omega arith)))
+      (λ later.
+      let q : i ≡ 16 + (i - 16) = omega arith in
+      let p : (i - 16) % 16 ≡ i % 16 = omega arith in
+      ap (λ (k : ℕ). get_or (w ++ more) k 0) q ∙ get_or_right w more 16 (i - 16) long ∙ repeated_place n (i - 16) (omega arith) ∙ ap (λ (k : ℕ). get_or w k 0) p)
+      (lt_or_ge i 16)
+
+  held_repeated : (t : ℕ) → t ≤ 80 → Held (repeated t w) t w
+  held_repeated t h =
+      record {
+        count = length-take-le t (flatten (replicate 5 w)) (omega (arith, length-repeated 5));
+        long = long;
+        place = λ i a b. sym (get_or-take t (flatten (replicate 5 w)) i 0 a ∙ repeated_place 5 i (omega arith));
+      }
+
+  -- so its next word is the word t
+  pub next_repeated : (t x : ℕ) → 16 ≤ t → t < 80 → x ≡ renewed w t → x ≡ next_word (repeated t w)
+  next_repeated t x late h e = e ∙ renewed_next (repeated t w) t w (held_repeated t (omega arith)) late
 
 -- two lists of words of which one window holds the last sixteen give the same rounds
 pub rounds_same : (n t : ℕ) (a b w : List ℕ) (v : Five) → Held a t w → Held b t w → 16 ≤ t → rounds (extend n a) n t v ≡ rounds (extend n b) n t v

@@ -26,21 +26,25 @@ words_end w m t a b l g =
 
 -- the run of twenty rounds from `from` on takes the function f and the constant k
 pub record Run (from : ℕ) (f : ℕ → ℕ → ℕ → ℕ) (k : ℕ) : Type 0 where
+  pub even : from % 2 ≡ 0
+  pub end : from ≤ 60
   pub mix : (t : ℕ) → from ≤ t → t < from + 20 → mix_of t ≡ f
   pub const : (t : ℕ) → from ≤ t → t < from + 20 → const_of t ≡ k
 
 pub run_ch : Run 0 ch 0x5a82_7999
 unfolding mix_of const_of
-run_ch = record { mix = λ t p q. rw (lt-ltb t 20 q); const = λ t p q. rw (lt-ltb t 20 q) }
+run_ch = record { even = refl; end = omega arith; mix = λ t p q. rw (lt-ltb t 20 q); const = λ t p q. rw (lt-ltb t 20 q) }
 
 pub run_parity : Run 20 parity 0x6ed9_eba1
 unfolding mix_of const_of
-run_parity = record { mix = λ t p q. rw (le-ltb t 20 p, lt-ltb t 40 q); const = λ t p q. rw (le-ltb t 20 p, lt-ltb t 40 q) }
+run_parity = record { even = refl; end = omega arith; mix = λ t p q. rw (le-ltb t 20 p, lt-ltb t 40 q); const = λ t p q. rw (le-ltb t 20 p, lt-ltb t 40 q) }
 
 pub run_maj : Run 40 maj 0x8f1b_bcdc
 unfolding mix_of const_of
 run_maj =
     record {
+      even = refl;
+      end = omega arith;
       mix = λ t p q. rw (le-ltb t 20 (omega arith), le-ltb t 40 p, lt-ltb t 60 q);
       const = λ t p q. rw (le-ltb t 20 (omega arith), le-ltb t 40 p, lt-ltb t 60 q);
     }
@@ -49,6 +53,8 @@ pub run_last : Run 60 parity 0xca62_c1d6
 unfolding mix_of const_of
 run_last =
     record {
+      even = refl;
+      end = omega arith;
       mix = λ t p q. rw (le-ltb t 20 (omega arith), le-ltb t 40 (omega arith), le-ltb t 60 p);
       const = λ t p q. rw (le-ltb t 20 (omega arith), le-ltb t 40 (omega arith), le-ltb t 60 p);
     }

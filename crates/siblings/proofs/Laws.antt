@@ -3,12 +3,15 @@ use Rattle.std.specs.Prelude.{ℕ, zero, suc, ◌+◌, ◌-◌, ◌<◌, ◌≡�
 use Rattle.std.specs.Cmp.Lexicographic.{pointwise}
 use Rattle.std.specs.List.{list_any, range_with_len}
 use Rattle.std.proofs.Math.ListN.{drop_of_length-le}
+use lib.ListN.{take}
+use lib.Seq.{take-length}
 use Rattle.laws.specs.Lists.{drop-next}
 use Rattle.laws.specs.Tests.{lt_or_ge, tri}
 use Rattle.std.proofs.Common.{arith, min, ◌≤◌, get_or, drop, ltb, le-ltb, lt-ltb, ◌⊎◌, inl, inr, sym, ap, ◌∙◌, eq-eqb, ne_eqb}
 use Rattle.laws.specs.Pick.{pick}
 use Rattle.laws.specs.Order.{compared, compared_lt, compared_gt, compared_eq}
 use Rattle.slices.specs.Bytes.{same_bytes}
+use Rattle.slices.specs.Laws.{same_equal}
 use Rattle.node.specs.Store.{parent_at, name_at}
 use Rattle.siblings.specs.declared.Rising.{Rising}
 use Rattle.siblings.specs.Siblings.{any_in, twin, repeats, siblings_differ}
@@ -18,25 +21,25 @@ use Rattle.siblings.specs.Rising.{is_below, before, git_before, and, risen}
 
 -- where the lists from i on are compared
 module _ (a b : List ℕ) (i : ℕ) (r : Bool) (inv : before (drop i a) (drop i b) ≡ r) where
-  ended : length b ≤ i → i < length a → false ≡ r
+  pub before_ended : length b ≤ i → i < length a → false ≡ r
   unfolding before compared
-  ended h k = sym (rw (drop-next a i k, drop_of_length-le b {i = i} h)) ∙ inv
+  before_ended h k = sym (rw (drop-next a i k, drop_of_length-le b {i = i} h)) ∙ inv
 
-  left : length a ≤ i → i < length b → true ≡ r
+  pub before_left : length a ≤ i → i < length b → true ≡ r
   unfolding before compared
-  left h k = sym (rw (drop-next b i k, drop_of_length-le a {i = i} h)) ∙ inv
+  before_left h k = sym (rw (drop-next b i k, drop_of_length-le a {i = i} h)) ∙ inv
 
-  equals : length a ≤ i → length b ≤ i → false ≡ r
+  pub before_equal : length a ≤ i → length b ≤ i → false ≡ r
   unfolding before compared
-  equals h k = sym (rw (drop_of_length-le b {i = i} k, drop_of_length-le a {i = i} h)) ∙ inv
+  before_equal h k = sym (rw (drop_of_length-le b {i = i} k, drop_of_length-le a {i = i} h)) ∙ inv
 
   pub before_end : i ≡ min (length a) (length b) → ltb (length a) (length b) ≡ r
   before_end e = by (lt_or_ge (length a) (length b)) (lt_or_ge (length b) (length a))
     where
       by : (length a < length b) ⊎ (length b ≤ length a) → (length b < length a) ⊎ (length a ≤ length b) → ltb (length a) (length b) ≡ r
-      by (inl h) k = lt-ltb (length a) (length b) h ∙ left (omega arith) (omega arith)
-      by (inr h) (inl k) = le-ltb (length a) (length b) h ∙ ended (omega arith) (omega arith)
-      by (inr h) (inr k) = le-ltb (length a) (length b) h ∙ equals (omega arith) (omega arith)
+      by (inl h) k = lt-ltb (length a) (length b) h ∙ before_left (omega arith) (omega arith)
+      by (inr h) (inl k) = le-ltb (length a) (length b) h ∙ before_ended (omega arith) (omega arith)
+      by (inr h) (inr k) = le-ltb (length a) (length b) h ∙ before_equal (omega arith) (omega arith)
 
   module _ (h : i < length a) (k : i < length b) where
     both_next : before (drop i a) (drop i b) ≡ is_below (compared (get_or a i 0 ∷ drop (i + 1) a) (get_or b i 0 ∷ drop (i + 1) b))
@@ -82,6 +85,21 @@ same_is (x ∷ xs) (y ∷ ys) = by (eqb x y) (same_is xs ys)
     by : (t : Bool) → pointwise nat_eq xs ys ≡ same_bytes xs ys → (t && pointwise nat_eq xs ys) ≡ pick t (same_bytes xs ys) false
     by true h = h
     by false h = refl
+
+take_whole : (a : List ℕ) (n : ℕ) → n ≡ length a → take n (drop 0 a) ≡ a
+take_whole a n e = rw (e, take-length a)
+
+-- names of one length are compared byte by byte, and names of two lengths differ
+module _ (a b x y : List ℕ) (p : a ≡ x) (q : b ≡ y) where
+  pub same_names : length a ≡ length b → (r : Bool) → r ≡ same_bytes (take (length a) (drop 0 a)) (take (length a) (drop 0 b)) → r ≡ same_bytes x y
+  same_names f r e = e ∙ (λ i. same_bytes (take_whole a (length a) refl i) (take_whole b (length a) f i)) ∙ (λ i. same_bytes (p i) (q i))
+
+  pub other_names_lem : (length a ≡ length b → ⊥) → false ≡ same_bytes x y
+  other_names_lem f = by (same_bytes x y) refl
+    where
+      by : (t : Bool) → same_bytes x y ≡ t → false ≡ t
+      by true e = absurd (f (ap length (p ∙ same_equal x y e ∙ sym q)))
+      by false e = refl
 
 module _ (names ns : List ℕ) (parent i j p : ℕ) (e : p ≡ parent_at ns j) where
   pub twin_child : p ≡ parent → (t : Bool) → t ≡ same_bytes (name_at names ns i) (name_at names ns j) → t ≡ twin names ns parent i j

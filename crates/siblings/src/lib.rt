@@ -55,11 +55,14 @@ pub fn rises(file: &[u8], nodes: &[u8], me: usize, so: Rising, child: usize) -> 
     }
 }
 
-// Whether nodes i and j have the same name.
+// Whether nodes i and j have the same name. By the loop of `slices::same`: with the library's `==` a table whose siblings stand in no known order took half as long
+// again to check.
 pub fn same_name(file: &[u8], nodes: &[u8], i: usize, j: usize) -> bool
     ensures { result ≡ same_bytes (name_at file.now nodes.now i) (name_at file.now nodes.now j) }
 {
-    node::name(file, nodes, i) == node::name(file, nodes, j)
+    let a = node::name(file, nodes, i);
+    let b = node::name(file, nodes, j);
+    a.len() == b.len() && slices::same(a, 0, b, 0, a.len())
 }
 
 // Whether node j is a child of the parent and has the name of node i.

@@ -1,14 +1,20 @@
--- The id of a node, as it is copied out of the store. Assumes nothing.
+-- The id of a node, as it is copied out of the store, and what goes with a reading that was refused. Assumes nothing.
 use Prim.Native.Nat.{ℕ, ◌+◌, ◌*◌, ◌≤◌, ◌<◌}
 use native.Mathlib.Omega.{arith}
-use mathlib.Core.List.{List, ◌++◌, append-nil}
-use mathlib.Core.Path.{◌≡◌, sym, ap, ◌∙◌}
+use mathlib.Core.List.{List, [], ◌∷◌, ◌++◌, append-nil}
+use mathlib.Core.Path.{◌≡◌, refl, sym, ap, ◌∙◌}
 use lib.ListN.{length, take, replicate, drop_of_length-le}
 use lib.Seq.{paste, take_all}
 use borrow.Author.Tests.{lt-ltb, le-ltb}
 use Rattle.laws.specs.Lists.{length_part}
 use Rattle.format.specs.Format.{id_size}
 use Rattle.node.specs.Store.{node_size, id_place, nodes_in, id_at}
+use Rattle.std.specs.Prelude.{Err, Ok, Result}
+use Rattle.file.specs.Answer.{carried_of, value_of}
+use Rattle.file.specs.declared.Error.{Error}
+use Rattle.file.specs.declared.Error.TheVariants.{BadTrailer, Mandatory, NoEntryRoom, NoNodeRoom, NoSignature, NotFilled, NotSpelled, OtherVersion, ShortFile, TooDeep}
+use Rattle.file.specs.declared.Reading.{Reading}
+use Rattle.sparrowpivot.specs.Told.{eight}
 use Rattle.sparrowpivot.specs.Tables.{node_id}
 
 module _ (ns : List ℕ) (i : ℕ) where
@@ -31,3 +37,17 @@ module _ (ns : List ℕ) (i : ℕ) where
       q ∙ (λ k. take id_size part ++ drop_of_length-le d {i = id_size} (omega arith) k) ∙ append-nil (take id_size part) ∙ take_all id_size part (omega arith) ∙ p ∙ sym (rw (lt-ltb i (nodes_in ns) small))
 
 pub ruleset laws = (no_id, id_long, id_copied)
+
+-- a refusal carries one number
+pub refused : (a : Result Reading Error) {v : ℕ} → v ≡ value_of a → ((r : Reading) → a ≡ Ok r → ⊥) → eight (v ∷ []) ≡ eight (carried_of a)
+refused (Ok r) e h = absurd (h r refl)
+refused (Err ShortFile) e h = ap (λ (x : ℕ). eight (x ∷ [])) e
+refused (Err NoSignature) e h = ap (λ (x : ℕ). eight (x ∷ [])) e
+refused (Err (OtherVersion version)) e h = ap (λ (x : ℕ). eight (x ∷ [])) e
+refused (Err BadTrailer) e h = ap (λ (x : ℕ). eight (x ∷ [])) e
+refused (Err (NotSpelled k)) e h = ap (λ (x : ℕ). eight (x ∷ [])) e
+refused (Err (NoEntryRoom k)) e h = ap (λ (x : ℕ). eight (x ∷ [])) e
+refused (Err (NotFilled place)) e h = ap (λ (x : ℕ). eight (x ∷ [])) e
+refused (Err (Mandatory signature)) e h = ap (λ (x : ℕ). eight (x ∷ [])) e
+refused (Err TooDeep) e h = ap (λ (x : ℕ). eight (x ∷ [])) e
+refused (Err NoNodeRoom) e h = ap (λ (x : ℕ). eight (x ∷ [])) e

@@ -64,7 +64,7 @@ pub fn sparrowpivot_entries(
         ≡ tell_entries
         (read_entries id_size file.now (file_at (length file.now - id_size)) version count 0 (file_at header_size) begin records.old paths.old) }
 {
-    let end = file.len().saturating_sub(format::ID_SIZE);
+    let end = sums::saturating_sub(file.len(), format::ID_SIZE);
     let before = Before {
         used: PathAt(0),
         path: None,

@@ -52,10 +52,11 @@ fn show_answer(rt: &impl Print, body: &[u8], nodes: &mut [u8]) -> Result<()> {
 }
 
 fn main(rt: HostRuntime) -> Result<()> {
-    let list = replay::read_up_to(rt.stdin(), LIST_ROOM, rt.alloc())?;
-    // what is lent is a store of a fixed size
+    // arrays, since a vector could lack memory, and no answer is to depend on that
+    let mut room = [0u8; LIST_ROOM];
     let mut nodes = [0u8; NODE_ROOM];
-    for body in Cases::of(&list) {
+    let n = replay::fill(rt.stdin(), &mut room);
+    for body in Cases::of(&room[..n]) {
         // what cannot be printed is left out
         let _ = show_answer(&rt, body, &mut nodes);
     }

@@ -2,7 +2,7 @@
 use mathlib.Core.Bool.{Bool, true}
 use mathlib.Core.Path.{◌≡◌, refl, sym, ap, ◌∙◌}
 use mathlib.Core.List.{List, [], ◌++◌}
-use Prim.Native.Nat.{ℕ, suc, ◌+◌, ◌-◌, ◌≤◌, ◌<◌, min}
+use Prim.Native.Nat.{ℕ, suc, ◌+◌, ◌-◌, ◌≤◌, ◌<◌}
 use native.Mathlib.Nat.{sub-zero}
 use native.Mathlib.Omega.{arith}
 use lib.ListN.{length, length-append}
@@ -11,7 +11,6 @@ use Rattle.sums.specs.Cap.{largest, cap, cap_fits, cap_small, cap_cap}
 use Rattle.format.specs.Format.{depth_limit, id_size}
 use Rattle.node.specs.Store.{nodes_in}
 use Rattle.walk_order.specs.Depth.{all_in, all_end, all_more, all_not, walks_within}
-use Rattle.tree_write.proofs.Laws.{min_cap}
 use Rattle.tree_write.specs.Tree.{head_bytes, node_bytes, tree_bytes}
 use Rattle.tree_write.specs.Flat.{heads_from, rises_at, siblings_rise, is_shallow, is_flat, shallow_length, flat_is}
 
@@ -70,9 +69,8 @@ module _ (ns nm : List ℕ) (n i size : ℕ) (inv : Sizing ns nm n i size) where
   pub sizing_end : n ≤ i → size ≡ cap (length (heads_from id_size ns nm (nodes_in ns) 0))
   sizing_end h = let z : cap (size + 0) ≡ cap (length (heads_from id_size ns nm (nodes_in ns) 0)) = rw (heads_none ns nm n i h) at inv.run in omega (arith, z, cap_fits (size + 0) (omega (arith, inv.small)))
 
-  pub sizing_more : i < n → (one next : ℕ) → one ≡ cap (length (head_bytes id_size ns nm i)) → next ≡ min (size + one) largest → Sizing ns nm n (i + 1) next
-  sizing_more h one next eo em =
-      let en : next ≡ cap (size + one) = min_cap _ _ em in
+  pub sizing_more : i < n → (one next : ℕ) → one ≡ cap (length (head_bytes id_size ns nm i)) → next ≡ cap (size + one) → Sizing ns nm n (i + 1) next
+  sizing_more h one next eo en =
       let rest : ℕ = length (heads_from id_size ns nm (n - (i + 1)) (i + 1)) in
       let x : size + one + rest ≡ one + (size + rest) = omega arith in
       let y : length (head_bytes id_size ns nm i) + (size + rest) ≡ size + length (heads_from id_size ns nm (n - i) i) = omega (arith, heads_long ns nm n i h) in

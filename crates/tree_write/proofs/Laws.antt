@@ -17,7 +17,8 @@ use Rattle.laws.specs.Order.{Comparison, below, equal, beyond, compared, Compare
 use Rattle.sums.specs.Cap.{largest, cap, cap_fits, cap_over, cap_small, cap_le, cap_below, cap_cap}
 use Rattle.wire.specs.Written.{digits_of}
 use Rattle.format.specs.Format.{depth_limit, id_size}
-use Rattle.node.specs.Store.{nodes_in, count_at, subtrees_at, parent_at, name_at}
+use Rattle.node.specs.Head.{minus_one}
+use Rattle.node.specs.Store.{nodes_in, count_at, subtrees_at, parent_at, id_at, name_at}
 use Rattle.siblings.specs.Siblings.{is_child}
 use Rattle.siblings.specs.Rising.{is_below}
 use Rattle.siblings.specs.Rising as rising
@@ -41,6 +42,20 @@ bytes_put d d₁ xs k e = e ∙ paste_put d xs k (length xs) refl
 
 pub byte_put : (d : List ℕ) (k b : ℕ) → k < length d → set d k b ≡ put d k (b ∷ [])
 byte_put d k b h = set-put d k b h
+
+-- ---- an id
+
+-- the id of a node that has one, of which x is a copy
+module _ (ns : List ℕ) (i count : ℕ) (ec : count ≡ count_at ns i) where
+  id_in : (count ≡ minus_one → ⊥) → id_bytes id_size ns i ≡ id_at id_size ns i
+  unfolding id_bytes
+  id_in h = rw (ne_eqb (count_at ns i) minus_one (λ q. h (ec ∙ q)))
+
+  pub id_long : (count ≡ minus_one → ⊥) → (x : List ℕ) → x ≡ id_at id_size ns i → length x ≡ length (id_bytes id_size ns i)
+  id_long h x e = ap length (e ∙ sym (id_in h))
+
+  pub id_room_lem : (count ≡ minus_one → ⊥) → (x : List ℕ) → x ≡ id_at id_size ns i → (k m : ℕ) → k + length (id_bytes id_size ns i) ≤ m → k + length x ≤ m
+  id_room_lem h x e k m r = omega (arith, id_long h x e)
 
 -- ---- a head's parts
 
@@ -159,7 +174,7 @@ module _ (ns nm : List ℕ) (i : ℕ) where
             both_put d d₂ d₃ (f ++ g) h k k₂ q₂ n₂ e₃ (omega (arith, ap length head_is)) ∙ ap (λ (l : List ℕ). put d k l) (sym head_is)
 
   pub head_size_lem : (name : List ℕ) (count subtrees digits more id named counted numbered r : ℕ) → name ≡ name_at nm ns i → count ≡ count_at ns i → subtrees ≡ subtrees_at ns i → digits ≡ length (count_bytes count) → more ≡ length (digits_of 10 subtrees)
-      → id ≡ length (id_bytes id_size ns i) → named ≡ min (length name + 3) largest → counted ≡ min (named + digits) largest → numbered ≡ min (counted + more) largest → r ≡ min (numbered + id) largest → r ≡ cap (length (head_bytes id_size ns nm i))
+      → id ≡ length (id_bytes id_size ns i) → named ≡ cap (length name + 3) → counted ≡ cap (named + digits) → numbered ≡ cap (counted + more) → r ≡ cap (numbered + id) → r ≡ cap (length (head_bytes id_size ns nm i))
   unfolding front_bytes number_bytes
   head_size_lem name count subtrees digits more id named counted numbered r en ec es ed em ei e₁ e₂ e₃ e₄ =
       let fl : length (front_bytes ns nm i) ≡ length name + 1 + digits
@@ -167,11 +182,7 @@ module _ (ns nm : List ℕ) (i : ℕ) where
       let gl : length (number_bytes ns i) ≡ 1 + more + 1
       = omega (arith, ap (λ (x : ℕ). length (digits_of 10 x)) es, length-append ((32 ∷ []) ++ digits_of 10 (subtrees_at ns i)) (10 ∷ []), length-append (32 ∷ []) (digits_of 10 (subtrees_at ns i))) in
       let z : length name + 3 + digits + more + id ≡ length (head_bytes id_size ns nm i) = omega (arith, head_long) in
-      let c₁ = min_cap _ _ e₁ in
-      let c₂ = min_cap _ _ e₂ in
-      let c₃ = min_cap _ _ e₃ in
-      let c₄ = min_cap _ _ e₄ in
-      c₄ ∙ ap (λ (x : ℕ). cap (x + id)) (c₃ ∙ ap (λ (x : ℕ). cap (x + more)) (c₂ ∙ ap (λ (x : ℕ). cap (x + digits)) c₁ ∙ cap_cap (length name + 3) digits) ∙ cap_cap (length name + 3 + digits) more)
+      e₄ ∙ ap (λ (x : ℕ). cap (x + id)) (e₃ ∙ ap (λ (x : ℕ). cap (x + more)) (e₂ ∙ ap (λ (x : ℕ). cap (x + digits)) e₁ ∙ cap_cap (length name + 3) digits) ∙ cap_cap (length name + 3 + digits) more)
       ∙ cap_cap (length name + 3 + digits + more) id ∙ ap cap z
 
 -- ---- the order of two nodes
@@ -352,10 +363,9 @@ module _ (ns nm : List ℕ) (b me n j size r : ℕ) (inv : Adding ns nm b me n j
       run = sym (ap (λ (l : List ℕ). cap (size + sum_over sizes l)) (kids_cut ∙ rw (ne_eqb (parent_at ns j) me (λ q. d (e ∙ q))))) ∙ inv.run;
     }
 
-    pub adding_kid : p ≡ me → (one next : ℕ) → one ≡ cap (length (node_bytes id_size ns nm b j)) → next ≡ min (size + one) largest → Adding ns nm b me n (j + 1) next r
+    pub adding_kid : p ≡ me → (one next : ℕ) → one ≡ cap (length (node_bytes id_size ns nm b j)) → next ≡ cap (size + one) → Adding ns nm b me n (j + 1) next r
     unfolding sum_over
-    adding_kid d one next eo em =
-        let en : next ≡ cap (size + one) = min_cap _ _ em in
+    adding_kid d one next eo en =
         let rest : ℕ = sum_over sizes (table_kids ns me (n - (j + 1)) (j + 1)) in
         let c : table_kids ns me (n - j) j ≡ j ∷ table_kids ns me (n - (j + 1)) (j + 1) = kids_cut ∙ rw (eq-eqb (parent_at ns j) me (sym e ∙ d)) in
         let x : size + one + rest ≡ one + (size + rest) = omega arith in

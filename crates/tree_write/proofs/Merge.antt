@@ -76,11 +76,11 @@ module _ (ns nm : List ℕ) (c e end : ℕ) where
 
 module _ (ns nm : List ℕ) (p x y : ℕ) (e : y ≡ kid_above ns p (x - 1)) where
   module _ (h : y ≡ 0 → ⊥) (t : Bool) (et : t ≡ before ns nm y x) where
-    lead_next : t ≡ true → y ≡ lead ns nm p x
+    pub lead_next : t ≡ true → y ≡ lead ns nm p x
     unfolding lead
     lead_next k = sym (rw (← e, ne_eqb y 0 h, sym et ∙ k))
 
-    lead_falls : t ≡ false → 0 ≡ lead ns nm p x
+    pub lead_falls : t ≡ false → 0 ≡ lead ns nm p x
     unfolding lead
     lead_falls k = sym (rw (← e, ne_eqb y 0 h, sym et ∙ k))
 
@@ -205,7 +205,7 @@ module _ (ns nm : List ℕ) (p end bound used : ℕ) (tails : List Kid) (w : wal
         let (j, l, d, r) = run_tail i e in
         g.last j l d (⊎_elim (λ z. subst (λ (x : ℕ). before ns nm t x ≡ true) z h) (λ z. before_trans ns nm t i (tail_at tails j) h z) r)
 
-    step_found : Found ns nm p bound (get_or tails place nobody)
+    pub step_found : Found ns nm p bound (get_or tails place nobody)
     step_found = record { last = record { early = chosen; last = late }; span = (c.live place g.low g.live).1 }
 
     abbrev next : ℕ
@@ -307,7 +307,7 @@ module _ (ns nm : List ℕ) (p end bound used : ℕ) (tails : List Kid) (w : wal
         by (inr a) (inr b) =
             subst (λ (y : ℕ). y < x) (sym (at_other j b)) (c.apart i j x l m (λ z. di (at_other i a ∙ z)) (λ z. dj (at_other j b ∙ z)) (subst (λ (y : ℕ). Run ns nm p y x) (at_other i a) r))
 
-    step_covers : Covers ns nm p t tails₁ used
+    pub step_covers : Covers ns nm p t tails₁ used
     step_covers = record { few = omega (arith, c.few, length-set tails place back); live = step_live; whole = step_whole; apart = step_apart }
 
 -- a tail that was taken is the last child
@@ -318,7 +318,7 @@ taken_quick ns nm p end bound used tails tails₁ (Some kid) w sp c s =
     rw (s.taken, s.moved) (record { found = step_found ns nm p end bound used tails w sp c s.place s.greatest; ready = step_covers ns nm p end bound used tails w sp c s.place s.greatest })
 
 -- what is known needs only the tails of the runs
-covers_kept : (ns nm : List ℕ) (p bound used : ℕ) (tails tails₁ : List Kid) → Covers ns nm p bound tails used → length tails₁ ≡ length tails → ((i : ℕ) → i < used → get_or tails₁ i nobody ≡ get_or tails i nobody) → Covers ns nm p bound tails₁ used
+pub covers_kept : (ns nm : List ℕ) (p bound used : ℕ) (tails tails₁ : List Kid) → Covers ns nm p bound tails used → length tails₁ ≡ length tails → ((i : ℕ) → i < used → get_or tails₁ i nobody ≡ get_or tails i nobody) → Covers ns nm p bound tails₁ used
 covers_kept ns nm p bound used tails tails₁ c long kept = record {
   few = omega (arith, c.few);
   live = λ i l d. subst (λ (k : Kid). Early ns nm p bound k.node × Span ns k.node k.end) (sym (kept i l)) (c.live i l (λ z. d (node i l ∙ z)));

@@ -55,7 +55,7 @@ impl<'a> Table<'a> {
     {
         let mut size: usize = 0;
         for i in 0..node::nodes_in(self.nodes) {
-            size = size.saturating_add(self.head_size(i));
+            size = sums::saturating_add(size, self.head_size(i));
         }
         size
     }

@@ -136,12 +136,11 @@ impl<'a> Table<'a> {
     fn head_size(self, i: usize) -> usize
         ensures { result ≡ cap (length (head_bytes id_size self.entry.nodes.now self.entry.names.now i)) }
     {
-        node::name(self.names, self.nodes, i)
-            .len()
-            .saturating_add(MARKS)
-            .saturating_add(count_size(node::count(self.nodes, i)))
-            .saturating_add(wire::decimal_size(node::subtrees(self.nodes, i)))
-            .saturating_add(self.id_size(i))
+        let named = sums::saturating_add(node::name(self.names, self.nodes, i).len(), MARKS);
+        let counted = sums::saturating_add(named, count_size(node::count(self.nodes, i)));
+        let more = wire::decimal_size(node::subtrees(self.nodes, i));
+        let numbered = sums::saturating_add(counted, more);
+        sums::saturating_add(numbered, self.id_size(i))
     }
 
     // Whether node i comes before node j: by name, and by index where the names are equal. Every search for a child calls this at each step.
@@ -230,7 +229,7 @@ impl<'a> Table<'a> {
         let mut size = self.head_size(me);
         for j in 1..node::nodes_in(self.nodes) {
             if node::parent(self.nodes, j) == me as u64 {
-                size = size.saturating_add(self.node_size(j, depth - 1));
+                size = sums::saturating_add(size, self.node_size(j, depth - 1));
             }
         }
         size

@@ -1,12 +1,13 @@
 -- Laws of the definitions of wire in the directions that proofs ask: the library's bytes of a number, turns of the loops, and where a number ends. Assumes nothing.
 use mathlib.Core.Path.{◌≡◌, refl, sym, ap, ◌∙◌}
 use mathlib.Core.Bool.{true, false}
-use mathlib.Core.List.{List, [], ◌∷◌, ◌++◌}
+use mathlib.Core.List.{List, [], ◌∷◌, ◌++◌, append_assoc, append-nil}
 use Prim.Native.Nat.{ℕ, zero, suc, ◌+◌, ◌-◌, ◌*◌, ◌/◌, ◌%◌, ◌^◌, ◌≤◌, ◌<◌}
 use native.Mathlib.Nat.{pow-succ', div-div-eq-div-mul, le_trans, mul-le-mul_right, div-mul-le_self, div-lt_iff_lt-mul}
+use native.Mathlib.Numerals.{add-one}
 use native.Mathlib.Omega.{arith}
 use lib.ListN.{length, get_or, set, drop}
-use lib.Seq.{paste}
+use lib.Seq.{paste, sets-eq}
 use Rattle.std.specs.Prelude.{Bool, Option, None, MatchOption, ltb}
 use Rattle.std.specs.Bool.{then_some}
 use borrow.Author.Tests.{ltb-true, ltb-false, lt-ltb, le-ltb, le-leb, lt-leb, eq-eqb, ne_eqb}
@@ -16,6 +17,7 @@ use Rattle.laws.specs.Tests.{lt_or_ge}
 use Rattle.std.proofs.lemmas.Slice.{put_mid-paste}
 use Rattle.std.specs.Int.{byte_at, bytes_high_first}
 use borrow.Rule.Slice.PartMut.{put_mid}
+use Rattle.laws.specs.Paste.{set-four, paste_then}
 use Rattle.laws.specs.Put.{put, put_put, length-put, set-put}
 use Rattle.wire.specs.BigEndian.{bytes_of, length-bytes}
 use Rattle.wire.specs.Groups.{groups_in, groups_end}
@@ -44,6 +46,44 @@ high_first (suc w) x = lowest_last w x ∙ ap (λ (l : List ℕ). l ++ (x % 256 
 
 pub put_is : (w : ℕ) (d : List ℕ) (at x k : ℕ) (bs : List ℕ) → w ≡ k → bs ≡ bytes_high_first w x → put_mid at k d bs ≡ paste d at (bytes_of w x) w
 put_is w d at x k bs e f = put_mid-paste at k d bs (bytes_of w x) w (f ∙ high_first w x) e (sym (length-bytes w x))
+
+-- a number's bytes are those of its upper part and, behind them, those of the lower
+pub bytes_join : (w v x : ℕ) → bytes_of (w + v) x ≡ bytes_of w (x / 256 ^ v) ++ bytes_of v x
+unfolding bytes_of
+bytes_join w zero x = let e : w + 0 ≡ w = omega arith in let q : x / 256 ^ 0 ≡ x = omega arith in rw (e, q, append-nil)
+bytes_join w (suc v) x =
+    let e : w + suc v ≡ suc (w + v) = omega arith in
+    let q : x / 256 ^ suc v ≡ x / 256 / 256 ^ v = ap (λ (k : ℕ). x / k) (pow-succ' 256 v) ∙ sym (div-div-eq-div-mul x 256 (256 ^ v)) in
+    rw (e, q, bytes_join w v (x / 256), append_assoc)
+
+-- bytes that are set one by one are the bytes of the number
+pub put16_is : (d : List ℕ) (i a b x : ℕ) → a ≡ x / 256 % 256 → b ≡ x % 256 → i + 2 ≤ length d → set (set d i a) (i + 1) b ≡ paste d i (bytes_of 2 x) 2
+unfolding bytes_of
+put16_is d i a b x ea eb h =
+    let p : i + 1 ≡ suc i = add-one i in
+    rw (ea, eb, p) (sets-eq (x / 256 % 256 ∷ x % 256 ∷ []) d i h)
+
+pub put32_is : (s : List ℕ) (i a b c e x : ℕ) → a ≡ x / 256 / 256 / 256 % 256 → b ≡ x / 256 / 256 % 256 → c ≡ x / 256 % 256 → e ≡ x % 256 → i + 4 ≤ length s
+    → set (set (set (set s i a) (i + 1) b) (i + 2) c) (i + 3) e ≡ paste s i (bytes_of 4 x) 4
+unfolding bytes_of
+put32_is s i a b c e x ea eb ec ee h = rw (ea, eb, ec, ee) (set-four s i (x / 256 / 256 / 256 % 256) (x / 256 / 256 % 256) (x / 256 % 256) (x % 256) h)
+
+-- the bytes of a number of 32 bits are those of its remainder
+low_bytes : (x : ℕ) → bytes_of 4 (x % 4294967296) ≡ bytes_of 4 x
+unfolding bytes_of
+low_bytes x =
+    let a : x % 4294967296 / 256 / 256 / 256 % 256 ≡ x / 256 / 256 / 256 % 256 = omega arith in
+    let b : x % 4294967296 / 256 / 256 % 256 ≡ x / 256 / 256 % 256 = omega arith in
+    let c : x % 4294967296 / 256 % 256 ≡ x / 256 % 256 = omega arith in
+    let d : x % 4294967296 % 256 ≡ x % 256 = omega arith in
+    rw (a, b, c, d)
+
+-- the two halves of a number, one behind the other
+pub put64_is : (s s₁ s₂ : List ℕ) (i x : ℕ) → s₁ ≡ paste s i (bytes_of 4 (x / 4294967296)) 4 → s₂ ≡ paste s₁ (i + 4) (bytes_of 4 (x % 4294967296)) 4 → i + 8 ≤ length s → s₂ ≡ paste s i (bytes_of 8 x) 8
+put64_is s s₁ s₂ i x e f h =
+    let g : s₂ ≡ paste s₁ (i + 4) (bytes_of 4 x) 4 = f ∙ ap (λ (l : List ℕ). paste s₁ (i + 4) l 4) (low_bytes x) in
+    paste_then s s₁ s₂ i (i + 4) (bytes_of 4 (x / 4294967296)) (bytes_of 4 x) 4 4 8 e g refl refl (length-bytes 4 (x / 4294967296)) (omega (arith, length-bytes 4 x)) h
+    ∙ ap (λ (l : List ℕ). paste s i l 8) (sym (bytes_join 4 4 x))
 
 -- ---- groups: what is left of a number, from the present state, answers r
 

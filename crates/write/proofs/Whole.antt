@@ -1,5 +1,5 @@
 -- Laws of the whole file, turned the way that the needs ask. Assumes nothing.
-use Prim.Native.Nat.{ℕ, ◌+◌, ◌≤◌, ◌<◌, min}
+use Prim.Native.Nat.{ℕ, ◌+◌, ◌≤◌, ◌<◌}
 use mathlib.Core.Bool.{Bool, true, false}
 use mathlib.Core.Path.{◌≡◌, refl, sym, ap, ◌∙◌}
 use mathlib.Core.List.{List, [], ◌∷◌, ◌++◌, append_assoc}
@@ -10,7 +10,7 @@ use lib.Seq.{paste, take_at, length-take-le}
 use borrow.Author.Tests.{lt-ltb, le-ltb, le-leb}
 use Rattle.laws.specs.Put.{put_then, put, put_none, put_front, length-put, paste_put}
 use Rattle.wire.specs.BigEndian.{bytes_of, length-bytes}
-use Rattle.sums.specs.Cap.{cap, cap_fits, cap_cap, cap_cap_right, largest, min_cap}
+use Rattle.sums.specs.Cap.{cap, cap_fits, cap_cap, cap_cap_right}
 use Rattle.format.specs.Format.{depth_limit, id_size}
 use Rattle.kind.specs.Sha1.{sha1_kind}
 use Rattle.entry.specs.Paths.{Paths}
@@ -89,13 +89,13 @@ module _ (ns nm : List ℕ) (writes : Bool) where
   pub length_unwritten : writes ≡ false → 0 ≡ cap (length (tree_of id_size depth_limit ns nm writes))
   length_unwritten h = sym (ap (λ (t : List ℕ). cap (length t)) (unwritten h) ∙ cap_fits 0 (omega arith))
 
-  put_written : writes ≡ true → (d d₁ : List ℕ) (k : ℕ) → k + length (tree_of id_size depth_limit ns nm writes) ≤ length d → d₁ ≡ put_fit d k (tree_bytes id_size depth_limit ns nm) → d₁ ≡ put d k (tree_of id_size depth_limit ns nm writes)
+  pub put_written : writes ≡ true → (d d₁ : List ℕ) (k : ℕ) → k + length (tree_of id_size depth_limit ns nm writes) ≤ length d → d₁ ≡ put_fit d k (tree_bytes id_size depth_limit ns nm) → d₁ ≡ put d k (tree_of id_size depth_limit ns nm writes)
   unfolding put_fit
   put_written h d d₁ k room e =
       let l : k + length (tree_bytes id_size depth_limit ns nm) ≤ length d = omega (arith, ap length (written h)) in
       e ∙ (rw (le-leb (k + length (tree_bytes id_size depth_limit ns nm)) (length d) l)) ∙ ap (λ (t : List ℕ). put d k t) (sym (written h))
 
-  put_unwritten : writes ≡ false → (d : List ℕ) (k : ℕ) → d ≡ put d k (tree_of id_size depth_limit ns nm writes)
+  pub put_unwritten : writes ≡ false → (d : List ℕ) (k : ℕ) → d ≡ put d k (tree_of id_size depth_limit ns nm writes)
   put_unwritten h d k = sym (ap (λ (t : List ℕ). put d k t) (unwritten h) ∙ put_none d k)
 
 module _ (ns nm : List ℕ) (tree : Option ℕ) where
@@ -249,12 +249,10 @@ module _ (there : Bool) where
   unfolding end_size
   end_absent h = sym (rw h)
 
-pub sizes_sum : (front tree h l a b r : ℕ) (writes sparse : Bool) → h ≡ head_size writes → l ≡ head_size sparse → a ≡ min (front + h) largest → b ≡ min (a + tree) largest → r ≡ min (b + l) largest
+pub sizes_sum : (front tree h l a b r : ℕ) (writes sparse : Bool) → h ≡ head_size writes → l ≡ head_size sparse → a ≡ cap (front + h) → b ≡ cap (a + tree) → r ≡ cap (b + l)
     → r ≡ cap (cap (cap (front + head_size writes) + tree) + head_size sparse)
 sizes_sum front tree h l a b r writes sparse eh el ea eb er =
-    let a₁ : a ≡ cap (front + h) = min_cap (front + h) a ea in
-    let b₁ : b ≡ cap (a + tree) = min_cap (a + tree) b eb in
-    min_cap (b + l) r er ∙ (λ j. cap (b₁ j + el j)) ∙ (λ j. cap (cap (a₁ j + tree) + head_size sparse)) ∙ ap (λ (x : ℕ). cap (cap (cap (front + x) + tree) + head_size sparse)) eh
+    er ∙ (λ j. cap (eb j + el j)) ∙ (λ j. cap (cap (ea j + tree) + head_size sparse)) ∙ ap (λ (x : ℕ). cap (cap (cap (front + x) + tree) + head_size sparse)) eh
 
 pub length_eoie_part : (has : Bool) (offset : ℕ) (toc : List ℕ) → length (eoie_part sha1_kind has offset toc) + id_size ≡ end_size id_size has
 unfolding end_size

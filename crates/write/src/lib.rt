@@ -215,10 +215,9 @@ fn end_size(has: bool) -> usize
 fn body_size(front: usize, writes: bool, tree: usize, sparse: bool) -> usize
     ensures { result ≡ cap (cap (cap (front + head_size writes) + tree) + head_size sparse) }
 {
-    front
-        .saturating_add(head_size(writes))
-        .saturating_add(tree)
-        .saturating_add(head_size(sparse))
+    let headed = sums::saturating_add(front, head_size(writes));
+    let treed = sums::saturating_add(headed, tree);
+    sums::saturating_add(treed, head_size(sparse))
 }
 
 // Writes a table that was sized and whose tree may be written: refuses what is too large or does not fit, and fills the output.

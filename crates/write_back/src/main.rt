@@ -3,9 +3,11 @@
 
 #![tactic(auto)]
 
+ghost use Rattle.std.specs.Prelude.{◌≤◌, length};
+
 use file::Reading;
-use std::alloc::{AllocError, Global};
 use std::env;
+use std::fs::File;
 use std::io::Result;
 use write::{Error, Options, Written};
 
@@ -21,57 +23,20 @@ const NODE: usize = 72;
 
 const PATH_ROOM: usize = 4096;
 
-// What was read of a file, each store as long as what it holds, and what is to be written.
+// What was read of a file, each part as long as what it holds, and what is to be written.
 #[derive(Drop)]
-struct Table {
-    records: Vec<u8>,
-    paths: Vec<u8>,
-    nodes: Vec<u8>,
+struct Table<'a> {
+    records: &'a [u8],
+    paths: &'a [u8],
+    nodes: &'a [u8],
     options: Options,
-}
-
-// Reads a file; none where it is refused.
-fn read(alloc: Global, file: &[u8]) -> std::result::Result<Option<Table>, AllocError> {
-    let mut records = vec![in alloc; 0u8; SLOTS * RECORD]?;
-    let mut paths = vec![in alloc; 0u8; PATH_ROOM]?;
-    let mut nodes = vec![in alloc; 0u8; SLOTS * NODE]?;
-    let Ok(
-        Reading {
-            sparse,
-            records: n,
-            path_bytes,
-            tree,
-            ..
-        },
-    ) = file::read(file, &mut records, &mut paths, &mut nodes)
-    else {
-        return Ok(None);
-    };
-    records.truncate(n.saturating_mul(RECORD));
-    paths.truncate(path_bytes);
-    nodes.truncate(tree.unwrap_or(0).saturating_mul(NODE));
-    // made here, as in each program that writes: what crate `replay` makes, the programs that only read have to wait for
-    let options = Options {
-        tree: tree.is_some(),
-        cache: true,
-        eoie: false,
-        sparse,
-        unhashed: false,
-    };
-    Ok(Some(Table {
-        records,
-        paths,
-        nodes,
-        options,
-    }))
 }
 
 // Whether what was written is what the Rust wrote, and its SHA-1.
 fn show_bytes(rt: &impl Print, written: &[u8], rust: &[u8]) -> Result<()> {
     let not = if written == rust { "" } else { "NOT " };
     print!(rt; ", {not}as the Rust, sha1 ")?;
-    replay::print_hex(rt, &sha1_hash::sha1_of(written))?;
-    println!(rt)
+    rt.write_all(&show::hex_line(sha1_hash::sha1_of(written)))
 }
 
 fn show_refused(rt: &impl Print, number: u32, carried: Option<usize>) -> Result<()> {
@@ -80,13 +45,12 @@ fn show_refused(rt: &impl Print, number: u32, carried: Option<usize>) -> Result<
 }
 
 // Writes a table that was read of a file, and shows what came of it.
-fn show_written(rt: &impl Print, table: &Table, file: &[u8], rust: &[u8]) -> Result<()> {
-    // what is lent is a store of a fixed size
+fn show_written(rt: &impl Print, table: Table<'_>, file: &[u8], rust: &[u8]) -> Result<()> {
     let mut out = [238u8; MOST_BYTES];
     match write::write_to(
-        &table.records,
-        &table.paths,
-        &table.nodes,
+        table.records,
+        table.paths,
+        table.nodes,
         file,
         table.options,
         &mut out,
@@ -102,30 +66,71 @@ fn show_written(rt: &impl Print, table: &Table, file: &[u8], rust: &[u8]) -> Res
     }
 }
 
-// The file of that name, empty where it cannot be opened.
-fn load(rt: &HostRuntime, name: &str) -> Result<Vec<u8>> {
-    let file = replay::load(rt, name, MOST_BYTES)?;
-    Ok(file.unwrap_or(Vec::new(rt.alloc())))
+// Reads a file, and shows what came of writing it back; a file that is refused is only named.
+fn show_file(rt: &impl Print, file: &[u8], rust: &[u8]) -> Result<()> {
+    let mut records = [0u8; SLOTS * RECORD];
+    let mut paths = [0u8; PATH_ROOM];
+    let mut nodes = [0u8; SLOTS * NODE];
+    let Ok(
+        Reading {
+            sparse,
+            records: n,
+            path_bytes,
+            tree,
+            ..
+        },
+    ) = file::read(file, &mut records, &mut paths, &mut nodes)
+    else {
+        return println!(rt; ": refused");
+    };
+    let table = Table {
+        records: records.get(..n.saturating_mul(RECORD)).unwrap_or(&records),
+        paths: paths.get(..path_bytes).unwrap_or(&paths),
+        nodes: nodes
+            .get(..tree.unwrap_or(0).saturating_mul(NODE))
+            .unwrap_or(&nodes),
+        // made here, as in each program that writes: what crate `replay` makes, the programs that only read have to wait for
+        options: Options {
+            tree: tree.is_some(),
+            cache: true,
+            eoie: false,
+            sparse,
+            unhashed: false,
+        },
+    };
+    show_written(rt, table, file, rust)
 }
 
-// The file of that name, and beside it what the Rust wrote; a file that is refused is only named. What cannot be printed is left out.
-fn show_pair(rt: &HostRuntime, name: &str, beside: &str) -> Result<()> {
-    let file = load(rt, name)?;
-    let rust = load(rt, beside)?;
+// Reads the file of that name, as much of it as there is room for, and answers how many bytes that are; none where it cannot be opened.
+fn load(rt: &HostRuntime, name: &str, room: &mut [u8]) -> usize
+    ensures { result ≤ length room.new }
+{
+    match File::open(rt, name) {
+        Ok(file) => replay::fill(file, room),
+        Err(why) => {
+            let _ = eprintln!(rt; "{name}: {why}");
+            0
+        }
+    }
+}
+
+// The file of that name, and beside it what the Rust wrote. What cannot be printed is left out.
+fn show_pair(rt: &HostRuntime, name: &str, beside: &str) {
+    // arrays, here and above, since a vector could lack memory, and no answer is to depend on that
+    let mut file = [0u8; MOST_BYTES];
+    let mut rust = [0u8; MOST_BYTES];
+    let n = load(rt, name, &mut file);
+    let m = load(rt, beside, &mut rust);
     let _ = print!(rt; "{name}");
-    let _ = match read(rt.alloc(), &file)? {
-        Some(table) => show_written(rt, &table, &file, &rust),
-        None => println!(rt; ": refused"),
-    };
-    Ok(())
+    let _ = show_file(rt, &file[..n], &rust[..m]);
 }
 
 fn main(rt: HostRuntime) -> Result<()> {
     let names: Vec<String> = env::args(&rt)?.skip(1).collect(rt.alloc())?;
     for pair in names.as_slice().chunks(2) {
         match pair {
-            [name, beside] => show_pair(&rt, name.as_str(), beside.as_str())?,
-            [name] => show_pair(&rt, name.as_str(), "")?,
+            [name, beside] => show_pair(&rt, name.as_str(), beside.as_str()),
+            [name] => show_pair(&rt, name.as_str(), ""),
             _ => (),
         }
     }

@@ -14,7 +14,7 @@ use Rattle.laws.specs.Pick.{pick}
 use Rattle.laws.specs.Paste.{paste_take, paste_then}
 use Rattle.laws.specs.Put.{put, put_none, put_put, length-put, paste_put}
 use Rattle.wire.specs.BigEndian.{bytes_of, length-bytes}
-use Rattle.sums.specs.Cap.{cap, min_cap}
+use Rattle.sums.specs.Cap.{cap}
 use Rattle.format.specs.Format.{fixed_extended_size, fixed_size, fields_size, id_size}
 use Rattle.entry.specs.Flags.{bit, extended, removed, to_storage, extended_to_storage}
 use Rattle.entry.specs.Paths.{Paths}
@@ -325,4 +325,4 @@ module _ (rs : List ℕ) (ps : Paths) (n version count size i : ℕ) (inv : Sizi
           run = size_more rs ps n i version count size (size_run id_size rs ps n 0 2 0 12) inv.run more t e h flags version₁ kept one size₁ ef ev ek eo es;
         }
 
-pub ruleset laws = (stated_min, fixed_wide, fixed_plain, whole_size, version_three, version_same, fault_gone, fault_none, fault_outside, kept_is, size_gone, gone_put, past_put, size_kept, kept_short, kept_room, kept_put, head_is, head_fits, entry_put, fill_start, fill_more, fill_end, sizing_start, sizing_end, sizing_fault, sizing_more, min_cap)
+pub ruleset laws = (stated_min, fixed_wide, fixed_plain, whole_size, version_three, version_same, fault_gone, fault_none, fault_outside, kept_is, size_gone, gone_put, past_put, size_kept, kept_short, kept_room, kept_put, head_is, head_fits, entry_put, fill_start, fill_more, fill_end, sizing_start, sizing_end, sizing_fault, sizing_more)

@@ -7,12 +7,13 @@
 use file::Reading;
 use node::MINUS_ONE;
 use replay::Row;
-use std::alloc::{AllocError, Global};
 use std::io::Result;
 use write::{Error, Options, Written};
 
 // The nodes' names are parts of this.
 const NAMES: &str = "abcdefghijklmnopqrst";
+
+const NODE: usize = node::NODE_SIZE;
 
 // A node that is out of date, so that it has no id.
 fn stale(name: &'static str, subtrees: u64, parent: u64) -> Row {
@@ -24,14 +25,17 @@ fn stale(name: &'static str, subtrees: u64, parent: u64) -> Row {
     }
 }
 
-fn node_table(alloc: Global, rows: &[Row]) -> std::result::Result<Vec<u8>, AllocError> {
-    replay::node_table(alloc, NAMES, rows)
+// Makes these rows the nodes of a table from the first on.
+fn put_rows(nodes: &mut [u8], first: usize, rows: &[Row]) {
+    for (i, row) in rows.iter().enumerate() {
+        replay::put_row(NAMES, *row, nodes, first.saturating_add(i));
+    }
 }
 
 // What the table is, whether it is proper, how many bytes its tree has, and the tree with a byte behind it, which stays as it was.
 fn show_tree(rt: &impl Print, kind: &str, nodes: &[u8]) -> Result<()> {
     let names = NAMES.as_bytes();
-    // what is lent is a store of a fixed size, here and below
+    // an array, as each store here, since a vector could lack memory, and no answer is to depend on that
     let mut out = [255u8; 3584];
     let not = if proper::is_proper(nodes, names) {
         ""
@@ -81,30 +85,34 @@ fn show_file(rt: &impl Print, nodes: &[u8]) -> Result<()> {
 }
 
 // a with ab below it, b.
-fn byte_order(alloc: Global) -> std::result::Result<Vec<u8>, AllocError> {
+fn byte_order() -> [u8; 4 * NODE] {
     let rows = [
         stale("", 2, MINUS_ONE),
         stale("a", 1, 0),
         stale("ab", 0, 1),
         stale("b", 0, 0),
     ];
-    node_table(alloc, &rows)
+    let mut nodes = [0u8; 4 * NODE];
+    put_rows(&mut nodes, 0, &rows);
+    nodes
 }
 
 // b, ab, bc: the shorter first.
-fn git_order(alloc: Global) -> std::result::Result<Vec<u8>, AllocError> {
+fn git_order() -> [u8; 4 * NODE] {
     let rows = [
         stale("", 3, MINUS_ONE),
         stale("b", 0, 0),
         stale("ab", 0, 0),
         stale("bc", 0, 0),
     ];
-    node_table(alloc, &rows)
+    let mut nodes = [0u8; 4 * NODE];
+    put_rows(&mut nodes, 0, &rows);
+    nodes
 }
 
 // c with q, pq and p below it, and p in that; ab with b, ab, b in one another; bc with p, q, ab below it, in p again q, op, and in q a. Below c there is no
 // order, elsewhere the shorter stands first.
-fn git_order_below(alloc: Global) -> std::result::Result<Vec<u8>, AllocError> {
+fn git_order_below() -> [u8; 17 * NODE] {
     let rows = [
         stale("", 3, MINUS_ONE),
         stale("c", 3, 0),
@@ -124,43 +132,49 @@ fn git_order_below(alloc: Global) -> std::result::Result<Vec<u8>, AllocError> {
         stale("a", 0, 14),
         stale("ab", 0, 10),
     ];
-    node_table(alloc, &rows)
+    let mut nodes = [0u8; 17 * NODE];
+    put_rows(&mut nodes, 0, &rows);
+    nodes
 }
 
 // So many folders in the root, by turns b and a: each a but the last begins a run that ends with the b behind it, and together they take all the tails that
 // are kept.
-const BY_TURNS: u64 = 4094;
+const BY_TURNS: usize = 4094;
 
 // By turns b and a in the root, and in the last of them c, b and a with d below it, for whose runs no tail is left.
-fn many_runs(alloc: Global) -> std::result::Result<Vec<u8>, AllocError> {
-    let mut rows = vec![in alloc; stale("", BY_TURNS, MINUS_ONE)]?;
+fn put_many_runs(nodes: &mut [u8]) {
+    let last = BY_TURNS as u64;
+    put_rows(nodes, 0, &[stale("", last, MINUS_ONE)]);
     for i in 1..BY_TURNS {
-        rows.push(stale(if i % 2 == 1 { "b" } else { "a" }, 0, 0))?;
+        put_rows(nodes, i, &[stale(if i % 2 == 1 { "b" } else { "a" }, 0, 0)]);
     }
-    rows.extend_from_slice(&[
+    let rows = [
         stale("a", 3, 0),
-        stale("c", 0, BY_TURNS),
-        stale("b", 0, BY_TURNS),
-        stale("a", 1, BY_TURNS),
-        stale("d", 0, BY_TURNS + 3),
-    ])?;
-    node_table(alloc, &rows)
+        stale("c", 0, last),
+        stale("b", 0, last),
+        stale("a", 1, last),
+        stale("d", 0, last + 3),
+    ];
+    put_rows(nodes, BY_TURNS, &rows);
 }
 
 // Equal names go by their places, so this is no proper table; it is written all the same. Shown are its size and the bytes where the last a ends and
-// the first b begins.
-fn show_many_runs(rt: &impl Print, nodes: &[u8]) -> Result<()> {
+// the first b begins. Its stores are large, and main's frame is not to hold them while a chain is shown.
+#[inline(never)]
+fn show_many_runs(rt: &impl Print) -> Result<()> {
     let names = NAMES.as_bytes();
+    let mut nodes = [0u8; (BY_TURNS + 5) * NODE];
     let mut out = [255u8; 28800];
-    let size = tree_write::tree_size(nodes, names);
-    tree_write::put_tree(nodes, names, &mut out, 0);
+    put_many_runs(&mut nodes);
+    let size = tree_write::tree_size(&nodes, names);
+    tree_write::put_tree(&nodes, names, &mut out, 0);
     println!(rt; "more runs than tails: {size}")?;
     replay::print_hex(rt, &out[14324..14387])?;
     println!(rt)
 }
 
 // bc, b with c below it, and one more.
-fn no_order(alloc: Global, last: &'static str) -> std::result::Result<Vec<u8>, AllocError> {
+fn no_order(last: &'static str) -> [u8; 5 * NODE] {
     let rows = [
         stale("", 3, MINUS_ONE),
         stale("bc", 0, 0),
@@ -168,52 +182,56 @@ fn no_order(alloc: Global, last: &'static str) -> std::result::Result<Vec<u8>, A
         stale("c", 0, 2),
         stale(last, 0, 0),
     ];
-    node_table(alloc, &rows)
+    let mut nodes = [0u8; 5 * NODE];
+    put_rows(&mut nodes, 0, &rows);
+    nodes
 }
 
 // a, b, and then ab below a.
-fn no_walk_order(alloc: Global) -> std::result::Result<Vec<u8>, AllocError> {
+fn no_walk_order() -> [u8; 4 * NODE] {
     let rows = [
         stale("", 2, MINUS_ONE),
         stale("a", 1, 0),
         stale("b", 0, 0),
         stale("ab", 0, 1),
     ];
-    node_table(alloc, &rows)
+    let mut nodes = [0u8; 4 * NODE];
+    put_rows(&mut nodes, 0, &rows);
+    nodes
 }
 
 // A folder in each folder, so many in all.
-fn chain(alloc: Global, levels: u64) -> std::result::Result<Vec<u8>, AllocError> {
-    let mut rows = vec![in alloc; stale("", 1, MINUS_ONE)]?;
+fn put_chain(nodes: &mut [u8], levels: usize) {
+    put_rows(nodes, 0, &[stale("", 1, MINUS_ONE)]);
     for i in 1..levels {
         let below = u64::from(i + 1 < levels);
-        rows.push(stale("a", below, i - 1))?;
+        put_rows(nodes, i, &[stale("a", below, i as u64 - 1)]);
     }
-    node_table(alloc, &rows)
 }
 
+// The most folders of a chain: one more than are allowed.
+const LEVELS: usize = 513;
+
 // The chain of so many folders, and the file that has it for its tree.
-fn show_chain(rt: &impl Print, kind: &str, nodes: &[u8]) -> Result<()> {
+fn show_chain(rt: &impl Print, kind: &str, levels: usize) -> Result<()> {
+    let mut room = [0u8; LEVELS * NODE];
+    put_chain(&mut room, levels);
+    let nodes = room.get(..levels.saturating_mul(NODE)).unwrap_or(&room);
     show_tree(rt, kind, nodes)?;
     show_file(rt, nodes)
 }
 
 fn main(rt: HostRuntime) -> Result<()> {
-    let alloc = rt.alloc();
     // what cannot be printed is left out
-    let _ = show_tree(&rt, "byte order", &byte_order(alloc)?);
-    let _ = show_tree(&rt, "git's order", &git_order(alloc)?);
-    let _ = show_tree(
-        &rt,
-        "git's order on several levels",
-        &git_order_below(alloc)?,
-    );
-    let _ = show_many_runs(&rt, &many_runs(alloc)?);
-    let _ = show_tree(&rt, "no order", &no_order(alloc, "ab")?);
-    let _ = show_tree(&rt, "no order, a name twice", &no_order(alloc, "bc")?);
-    let _ = show_tree(&rt, "not in walk order", &no_walk_order(alloc)?);
-    let _ = show_chain(&rt, "a folder less than allowed", &chain(alloc, 511)?);
-    let _ = show_chain(&rt, "as deep as allowed", &chain(alloc, 512)?);
-    let _ = show_chain(&rt, "a folder too deep", &chain(alloc, 513)?);
+    let _ = show_tree(&rt, "byte order", &byte_order());
+    let _ = show_tree(&rt, "git's order", &git_order());
+    let _ = show_tree(&rt, "git's order on several levels", &git_order_below());
+    let _ = show_many_runs(&rt);
+    let _ = show_tree(&rt, "no order", &no_order("ab"));
+    let _ = show_tree(&rt, "no order, a name twice", &no_order("bc"));
+    let _ = show_tree(&rt, "not in walk order", &no_walk_order());
+    let _ = show_chain(&rt, "a folder less than allowed", LEVELS - 2);
+    let _ = show_chain(&rt, "as deep as allowed", LEVELS - 1);
+    let _ = show_chain(&rt, "a folder too deep", LEVELS);
     Ok(())
 }

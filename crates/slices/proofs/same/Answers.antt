@@ -1,9 +1,15 @@
--- `slices::same` meets its contract. Assumes nothing.
-use Rattle.std.proofs.lemmas.Bool.Decides.{Decides-eqb}
-use Rattle.std.proofs.lemmas.Slice.Eq.{slice_eq-Decides}
-use Rattle.slices.specs.Laws.{same_parts}
+use borrow.Author.Rules.{rules}
+use Rattle.slices.specs.Laws.{laws}
 use Rattle.slices.proofs.same.Goals as goal
 
+pub loop-k-init : goal.loop-k-init
+loop-k-init c = search (laws, rules)
+
+pub returns-then-a-i : goal.returns-then-a-i
+returns-then-a-i c = search (laws, rules)
+
+pub loop-k-preserved : goal.loop-k-preserved
+loop-k-preserved c = search (laws, rules)
+
 pub returns : goal.returns
-returns c = let a = c.args in
-    same_parts a.a.now a.b.now a.i a.j a.n _ (slice_eq-Decides Decides-eqb _ _ _ c.eq.ensures)
+returns c = search (laws, rules)

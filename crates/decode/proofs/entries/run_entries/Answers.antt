@@ -17,10 +17,15 @@ loop-k-init c =
 pub overflow_add-index : goal.overflow_add-index
 overflow_add-index c = omega (arith, c.loop-k.invariant.number, c.well_formed)
 
-pub returns-in_default : goal.returns-in_default
-returns-in_default c =
+pub returns-in-Err-Short : goal.returns-in-Err-Short
+returns-in-Err-Short c =
     let more : c.args.r.count - c.loop-k.k ≡ suc (c.args.r.count - (c.loop-k.k + 1)) = omega (arith, c.loop-k-test.true) in
-    run_refused _ _ _ _ _ _ _ _ _ _ _ _ _ c.loop-k.invariant.rest _ more _ c.measure.ensures _ c.in_default.is
+    run_refused _ _ _ _ _ _ _ _ _ _ _ _ _ c.loop-k.invariant.rest _ more _ c.measure.ensures _ c.in-Err-Short.is
+
+pub returns-in-Err-Fault : goal.returns-in-Err-Fault
+returns-in-Err-Fault c =
+    let more : c.args.r.count - c.loop-k.k ≡ suc (c.args.r.count - (c.loop-k.k + 1)) = omega (arith, c.loop-k-test.true) in
+    run_refused _ _ _ _ _ _ _ _ _ _ _ _ _ c.loop-k.invariant.rest _ more _ c.measure.ensures _ c.in-Err-Fault.is
 
 pub overflow_add-size : goal.overflow_add-size
 overflow_add-size c =

@@ -12,8 +12,5 @@ loop-c-smaller c = search (listing-laws, rules)
 pub loop-c-preserved : goal.loop-c-preserved
 loop-c-preserved c = search (listing-laws, rules)
 
-pub returns-then-so : goal.returns-then-so
-returns-then-so c = search (listing-laws, rules)
-
-pub returns-else-so : goal.returns-else-so
-returns-else-so c = search (listing-laws, rules)
+pub returns : goal.returns
+returns c = search (listing-laws, rules)

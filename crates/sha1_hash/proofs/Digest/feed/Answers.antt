@@ -1,6 +1,7 @@
 -- `sha1_hash::Digest::feed` meets its contract: by `feed_short` where the piece fits beside the bytes in use, else by `feed_long`. Assumes nothing.
-use Rattle.std.proofs.Common.{◌≡◌, ℕ, ◌+◌, ◌-◌, ◌%◌, ◌^◌, List, ◌++◌, length, take, refl, ap, ◌∙◌, rules}
+use Rattle.std.proofs.Common.{◌≡◌, ℕ, ◌+◌, ◌-◌, ◌%◌, ◌^◌, List, ◌++◌, length, take, refl, ap, ◌∙◌, arith, take_all, rules}
 use Rattle.sha1_hash.specs.Sha1.{hash_all}
+use Rattle.sha1_hash.specs.Pieces.{filled}
 use Rattle.sha1_hash.specs.declared.Digest.{Digest}
 use Rattle.sha1_hash.proofs.Feed.{feed_short, fill_none, fill_one, feed_long}
 use Rattle.sha1_hash.proofs.Digest.feed.Goals as goal
@@ -9,7 +10,8 @@ use Rattle.sha1_hash.proofs.Digest.feed.Goals.{then-used-ne0, else-used-ne0}
 pub returns-then-piece-room : goal.returns-then-piece-room
 returns-then-piece-room c = let d = c.args.self in
     let long : length d.block ≡ 64 = search rules in
-    feed_short d.h d.block c.args.piece.now d.len _ long refl c.join.new.block c.if-piece-room.true c.join.ensures
+    let joined : c.join.new.block ≡ filled (take (d.len % 64) d.block ++ c.args.piece.now) = grind (arith, take_all) in
+    feed_short d.h d.block c.args.piece.now d.len _ long refl c.join.new.block c.if-piece-room.true joined
 
 pub returns : goal.returns
 returns c = let d = c.args.self in

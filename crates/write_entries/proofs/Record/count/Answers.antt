@@ -2,5 +2,8 @@ use Rattle.write_entries.proofs.Laws.{laws}
 use borrow.Author.Rules.{rules}
 use Rattle.write_entries.proofs.Record.count.Goals as goal
 
-pub returns : goal.returns
-returns c = search (laws, rules)
+pub returns-then-is_removed : goal.returns-then-is_removed
+returns-then-is_removed c = search (laws, rules)
+
+pub returns-else-is_removed : goal.returns-else-is_removed
+returns-else-is_removed c = search (laws, rules)

@@ -5,5 +5,5 @@ use Rattle.write_entries.proofs.Record.size.Goals as goal
 pub returns-then-is_removed : goal.returns-then-is_removed
 returns-then-is_removed c = search (laws, rules)
 
-pub returns-else-is_removed : goal.returns-else-is_removed
-returns-else-is_removed c = search (laws, rules)
+pub returns : goal.returns
+returns c = search (laws, rules)
